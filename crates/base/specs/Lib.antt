@@ -1,0 +1,5 @@
+-- The definitions that every crate shares.
+pub mod Seq
+pub mod Serial
+pub mod Time
+pub mod Refusals
