@@ -1,5 +1,5 @@
 pub mod SeqLaws
 pub mod Cases
 pub mod BookLaws
-mod SerialLaws
+pub mod SerialLaws
 mod TimeLaws
