@@ -1,0 +1,152 @@
+// The places of the ring and of the late list.
+ghost use mathlib.Core.Path.{_≡_};
+ghost use Rattle.ring.specs.Ring.{firstFree, fineOf, allCount, noSent, isProbe, found, packed, takenOut, remembered, swept};
+use crate::types::Sent;
+use base::types::MaybeId;
+
+// The place of the first entry that is free, or 8.
+pub fn first_free(ring: [Sent; 8]) -> usize
+    ensures { λ r. ⌜ r ≡ firstFree ring ⌝ }
+{
+    let mut i: usize = 0;
+    while i < 8 {
+        let s = ring[i];
+        if !s.used {
+            return i;
+        }
+        i += 1;
+    }
+    i
+}
+
+// Free, or its lapse counts.
+fn fine(s: Sent, since: MaybeId) -> bool
+    ensures { λ r. ⌜ r ≡ fineOf since s ⌝ }
+{
+    if s.used {
+        crate::ids::counts(since, s.probe_id)
+    } else {
+        true
+    }
+}
+
+// Whether every waiting probe counts.
+pub fn all_count(ring: [Sent; 8], since: MaybeId) -> bool
+    ensures { λ r. ⌜ r ≡ allCount since ring ⌝ }
+{
+    let mut i: usize = 0;
+    while i < 8 {
+        let s = ring[i];
+        if !fine(s, since) {
+            return false;
+        }
+        i += 1;
+    }
+    true
+}
+
+// A free place.
+pub fn none() -> Sent
+    ensures { λ r. ⌜ r ≡ noSent ⌝ }
+{
+    Sent {
+        at: 0,
+        due: 0,
+        probe_id: 0,
+        len: 0,
+        used: false,
+    }
+}
+
+// Whether the entry is the waiting probe id.
+fn is_probe(s: Sent, id: u32) -> bool
+    ensures { λ r. ⌜ r ≡ isProbe id s ⌝ }
+{
+    if s.used { s.probe_id == id } else { false }
+}
+
+// The place of the first waiting probe with the identifier, or 8.
+pub fn find(ring: [Sent; 8], id: u32) -> usize
+    ensures { λ r. ⌜ r ≡ found id ring ⌝ }
+{
+    let mut i: usize = 0;
+    while i < 8 {
+        let s = ring[i];
+        if is_probe(s, id) {
+            return i;
+        }
+        i += 1;
+    }
+    i
+}
+
+// The waiting probes at the front, in their order.
+pub fn compact(ring: [Sent; 8]) -> [Sent; 8]
+    ensures { λ r. ⌜ r ≡ packed 8 ring ⌝ }
+{
+    let free = none();
+    let mut out = [free; 8];
+    let mut w: usize = 0;
+    let mut r: usize = 0;
+    while r < 8 {
+        let s = ring[r];
+        r += 1;
+        if s.used {
+            out[w] = s;
+            w += 1;
+        }
+    }
+    out
+}
+
+// The ring without the probe at a place, closed up in its order.
+pub fn take_out(ring: [Sent; 8], slot: usize) -> [Sent; 8]
+    ensures { λ r. ⌜ r ≡ takenOut 8 ring slot ⌝ }
+{
+    let free = none();
+    let mut open = ring;
+    if slot < 8 {
+        open[slot] = free;
+        return compact(open);
+    }
+    compact(ring)
+}
+
+// The place of the first late probe with the identifier, or 4.
+pub fn find_late(late: [Sent; 4], id: u32) -> usize
+    ensures { λ r. ⌜ r ≡ found id late ⌝ }
+{
+    let mut i: usize = 0;
+    while i < 4 {
+        let s = late[i];
+        if is_probe(s, id) {
+            return i;
+        }
+        i += 1;
+    }
+    i
+}
+
+// The late list with one more at its end: everything shifts one place.
+pub fn remember(late: [Sent; 4], s: Sent) -> [Sent; 4]
+    ensures { λ r. ⌜ r ≡ remembered late s ⌝ }
+{
+    [late[1], late[2], late[3], s]
+}
+
+// The late list after a sweep: the waiting probes enter it in ring order.
+pub fn sweep(late: [Sent; 4], ring: [Sent; 8]) -> [Sent; 4]
+    ensures { λ r. ⌜ r ≡ swept late ring ⌝ }
+{
+    let mut out = late;
+    let mut i: usize = 0;
+    while i < 8 {
+        let s = ring[i];
+        i += 1;
+        if s.used {
+            let next = remember(out, s);
+            out = next;
+        }
+    }
+    out
+}

@@ -1,0 +1,19 @@
+// What the ring and the late list hold, and the identifiers of a path.
+use base::types::MaybeId;
+
+// One probe sent on a path, as the Rust's `Sent`; a free place has `used` clear and all else 0.
+pub struct Sent {
+    pub at: u64,
+    pub due: u64,
+    pub probe_id: u32,
+    pub len: u16,
+    pub used: bool,
+}
+
+// The identifiers that a path keeps: the next, the newest answered in time, the first of the current state, and the first that counts.
+pub struct Ids {
+    pub next_id: MaybeId,
+    pub answered: MaybeId,
+    pub epoch: MaybeId,
+    pub since: MaybeId,
+}
