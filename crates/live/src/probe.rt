@@ -1,0 +1,187 @@
+// Probes sent, answered and lapsed.
+ghost use mathlib.Core.Path.{_≡_};
+ghost use Rattle.live.specs.Probe.{noId, takeIdOf, sendOf, lapseAnswer, answerOf, expireOf, lapseOf, clearOf, thawOf, isMatching};
+use crate::types::*;
+use base::types::*;
+use ring::types::*;
+use seek::types::*;
+
+impl Answer {
+    // Whether the answer is a matching one: an answer in time is, a late one is not.
+    pub fn matching(self) -> bool
+        ensures { λ r. ⌜ r ≡ isMatching self ⌝ }
+    {
+        match self {
+            Answer::InTime(s) => true,
+            Answer::Late(s) => false,
+            Answer::Refused(why) => false,
+        }
+    }
+}
+
+// A refused send: the path as it came.
+pub fn no_id(path: Liveness, why: Refusal) -> Sending
+    ensures { λ r. ⌜ r ≡ noId path why ⌝ }
+{
+    let answer = IdAnswer::Refused(why);
+    Sending {
+        path: path,
+        answer: answer,
+    }
+}
+
+// The answer for a probe that lapsed.
+fn lapse_answer(miss: bool) -> Expired
+    ensures { λ r. ⌜ r ≡ lapseAnswer miss ⌝ }
+{
+    if miss { Expired::Counted } else { Expired::NotCounted }
+}
+
+impl Liveness {
+    // Takes the path's next identifier; the draw is its first.
+    pub fn take_id(self, draw: u32) -> Taking
+        ensures { λ r. ⌜ r ≡ takeIdOf self draw ⌝ }
+    {
+        let ids = self.ids;
+        let next = ids.next_id;
+        let id = ring::ids::taken(next, draw);
+        let after = ring::ids::next_ids(ids, id);
+        let mut out = self;
+        out.ids = after;
+        Taking { path: out, id: id }
+    }
+
+    // A probe of len bytes sent at `at`, due at `due`: into the first free place of the ring.
+    pub fn send(self, at: u64, due: u64, len: u32, draw: u32) -> Sending
+        ensures { λ r. ⌜ r ≡ sendOf self at due len draw ⌝ }
+    {
+        if 65535 < len {
+            let why = Refusal::Length;
+            return no_id(self, why);
+        }
+        let ring = self.ring;
+        let slot = ring::ring::first_free(ring);
+        if 8 <= slot {
+            let why = Refusal::Full;
+            return no_id(self, why);
+        }
+        let short = len as u16;
+        let kept = ring::ids::drop_since(self.ids, ring);
+        let next = kept.next_id;
+        let id = ring::ids::taken(next, draw);
+        let ids = ring::ids::next_ids(kept, id);
+        let silence = stop::quiet_from(self.silence, at);
+        let last = MaybeLen::Some(short);
+        let ladder = Ladder { last: last, fallen: self.ladder.fallen };
+        let mut out = self;
+        out.ring[slot] = Sent { at: at, due: due, probe_id: id, len: short, used: true };
+        out.ids = ids;
+        out.silence = silence;
+        out.ladder = ladder;
+        let answer = IdAnswer::Id(id);
+        Sending { path: out, answer: answer }
+    }
+
+    // Takes the probe id out of the ring, or else out of the late list.
+    pub fn answer(self, id: u32) -> Answering
+        ensures { λ r. ⌜ r ≡ answerOf self id ⌝ }
+    {
+        let ring = self.ring;
+        let slot = ring::ring::find(ring, id);
+        if slot < 8 {
+            let sent = ring[slot];
+            let closed = ring::ring::take_out(ring, slot);
+            let ids = ring::ids::answered_ids(self.ids, id);
+            let mut out = self;
+            out.ring = closed;
+            out.ids = ids;
+            out.misses = 0;
+            let in_time = Answer::InTime(sent);
+            return Answering { path: out, answer: in_time };
+        }
+        let late = self.late;
+        let place = ring::ring::find_late(late, id);
+        if place < 4 {
+            let sent = late[place];
+            let free = ring::ring::none();
+            let mut out = self;
+            out.late[place] = free;
+            let too_late = Answer::Late(sent);
+            return Answering { path: out, answer: too_late };
+        }
+        let unknown = Answer::Refused(Refusal::Unknown);
+        Answering { path: self, answer: unknown }
+    }
+
+    // Takes the probe that lapses out of the ring into the late list, deferring others on the way to it.
+    pub fn expire(self, now: u64, overdue: bool, cap: u64) -> Expiring
+        ensures { λ r. ⌜ r ≡ expireOf self now overdue cap ⌝ }
+    {
+        if 0x4000_0000_0000_0000 <= cap {
+            let refused = Expired::Refused(Refusal::Duration);
+            return Expiring { path: self, answer: refused };
+        }
+        let ring = self.ring;
+        let traffic = self.traffic;
+        let data_at = traffic.data_at;
+        let scanned = ring::lapse::scan(ring, data_at, cap, now, overdue);
+        let left = scanned.ring;
+        let slot = scanned.slot;
+        let mut out = self;
+        if 8 <= slot {
+            out.ring = left;
+            let none = Expired::None;
+            return Expiring { path: out, answer: none };
+        }
+        let sent = left[slot];
+        let closed = ring::ring::take_out(left, slot);
+        let late = self.late;
+        let later = ring::ring::remember(late, sent);
+        let miss = ring::ids::counted(self.ids, sent.probe_id);
+        let fall = ring::ids::padded(self.ids, sent);
+        let fallen = fall | self.ladder.fallen;
+        let misses = ring::ids::missed(self.misses, miss);
+        out.ring = closed;
+        out.late = later;
+        out.ladder.fallen = fallen;
+        out.misses = misses;
+        let answer = lapse_answer(miss);
+        Expiring { path: out, answer: answer }
+    }
+
+    // Keeps a probe that was held outside the ring in the late list.
+    pub fn lapse(self, sent: Sent) -> Self
+        ensures { λ r. ⌜ r ≡ lapseOf self sent ⌝ }
+    {
+        let late = self.late;
+        let later = ring::ring::remember(late, sent);
+        let mut out = self;
+        out.late = later;
+        out
+    }
+
+    // Gives up every waiting probe; the late list keeps them.
+    pub fn clear(self) -> Self
+        ensures { λ r. ⌜ r ≡ clearOf self ⌝ }
+    {
+        let ring = self.ring;
+        let late = self.late;
+        let later = ring::ring::sweep(late, ring);
+        let free = ring::ring::none();
+        let empty = [free; 8];
+        let mut out = self;
+        out.ring = empty;
+        out.late = later;
+        out
+    }
+
+    // A probe that waits now does not count when it lapses.
+    pub fn thaw(self) -> Self
+        ensures { λ r. ⌜ r ≡ thawOf self ⌝ }
+    {
+        let ids = ring::ids::thawed_ids(self.ids);
+        let mut out = self;
+        out.ids = ids;
+        out
+    }
+}
