@@ -34,7 +34,11 @@ pub fn no_id(path: Liveness, why: Refusal) -> Sending
 fn lapse_answer(miss: bool) -> Expired
     ensures { λ r. ⌜ r ≡ lapseAnswer miss ⌝ }
 {
-    if miss { Expired::Counted } else { Expired::NotCounted }
+    if miss {
+        Expired::Counted
+    } else {
+        Expired::NotCounted
+    }
 }
 
 impl Liveness {
@@ -72,14 +76,26 @@ impl Liveness {
         let ids = ring::ids::next_ids(kept, id);
         let silence = stop::quiet_from(self.silence, at);
         let last = MaybeLen::Some(short);
-        let ladder = Ladder { last: last, fallen: self.ladder.fallen };
+        let ladder = Ladder {
+            last: last,
+            fallen: self.ladder.fallen,
+        };
         let mut out = self;
-        out.ring[slot] = Sent { at: at, due: due, probe_id: id, len: short, used: true };
+        out.ring[slot] = Sent {
+            at: at,
+            due: due,
+            probe_id: id,
+            len: short,
+            used: true,
+        };
         out.ids = ids;
         out.silence = silence;
         out.ladder = ladder;
         let answer = IdAnswer::Id(id);
-        Sending { path: out, answer: answer }
+        Sending {
+            path: out,
+            answer: answer,
+        }
     }
 
     // Takes the probe id out of the ring, or else out of the late list.
@@ -97,7 +113,10 @@ impl Liveness {
             out.ids = ids;
             out.misses = 0;
             let in_time = Answer::InTime(sent);
-            return Answering { path: out, answer: in_time };
+            return Answering {
+                path: out,
+                answer: in_time,
+            };
         }
         let late = self.late;
         let place = ring::ring::find_late(late, id);
@@ -107,10 +126,16 @@ impl Liveness {
             let mut out = self;
             out.late[place] = free;
             let too_late = Answer::Late(sent);
-            return Answering { path: out, answer: too_late };
+            return Answering {
+                path: out,
+                answer: too_late,
+            };
         }
         let unknown = Answer::Refused(Refusal::Unknown);
-        Answering { path: self, answer: unknown }
+        Answering {
+            path: self,
+            answer: unknown,
+        }
     }
 
     // Takes the probe that lapses out of the ring into the late list, deferring others on the way to it.
@@ -119,7 +144,10 @@ impl Liveness {
     {
         if 0x4000_0000_0000_0000 <= cap {
             let refused = Expired::Refused(Refusal::Duration);
-            return Expiring { path: self, answer: refused };
+            return Expiring {
+                path: self,
+                answer: refused,
+            };
         }
         let ring = self.ring;
         let traffic = self.traffic;
@@ -131,7 +159,10 @@ impl Liveness {
         if 8 <= slot {
             out.ring = left;
             let none = Expired::None;
-            return Expiring { path: out, answer: none };
+            return Expiring {
+                path: out,
+                answer: none,
+            };
         }
         let sent = left[slot];
         let closed = ring::ring::take_out(left, slot);
@@ -146,7 +177,10 @@ impl Liveness {
         out.ladder.fallen = fallen;
         out.misses = misses;
         let answer = lapse_answer(miss);
-        Expiring { path: out, answer: answer }
+        Expiring {
+            path: out,
+            answer: answer,
+        }
     }
 
     // Keeps a probe that was held outside the ring in the late list.

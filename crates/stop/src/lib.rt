@@ -2,6 +2,7 @@ ghost use mathlib.Core.Path.{_≡_};
 ghost use Rattle.stop.specs.Stop.{quietFrom};
 use base::types::*;
 use types::*;
+
 pub mod types;
 
 // quiet keeps the first send's instant
@@ -15,5 +16,8 @@ pub fn quiet_from(s: Silence, at: u64) -> Silence
         MaybeTime::Some(t) => t,
     };
     let from = MaybeTime::Some(first);
-    Silence { stop: stop, quiet: from }
+    Silence {
+        stop: stop,
+        quiet: from,
+    }
 }

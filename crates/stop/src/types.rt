@@ -1,4 +1,5 @@
 use base::types::*;
+
 pub struct Stop {
     pub free: u64,
     pub gap: u64,
@@ -6,10 +7,12 @@ pub struct Stop {
     pub until: MaybeTime,
     pub owed: bool,
 }
+
 pub enum MaybeStop {
     None,
     Some(Stop),
 }
+
 pub struct Silence {
     pub stop: MaybeStop,
     pub quiet: MaybeTime,

@@ -1,0 +1,71 @@
+-- One law for every width: a loop that reads bytes from the highest down makes the number whose bytes they are.
+-- Assumes nothing.
+use mathlib.Core.Path.{_≡_, refl, sym, ap, _∙_}
+use mathlib.Core.List.{List, [], _∷_, _++_}
+use mathlib.Core.Bool.{Bool, true, false, _&&_}
+use Prim.Native.Nat.{ℕ, zero, suc, _+_, _-_, _*_, _<_, _≤_, _^_}
+use native.Mathlib.Omega.{arith}
+use native.Mathlib.Numerals.{add-one}
+use native.Mathlib.Nat.{pow-suc, pow-le-pow-right}
+use borrow.Author.Tests.{le-leb, lt-leb}
+use lib.Dec.{leb}
+use lib.ListN.{length, take, drop, getD}
+use lib.Seq.{drop-cons}
+use Rattle.octets.specs.Octets.{numberOf, readAt}
+
+-- of w bytes from `at` on, all but the first `left` make x
+pub record Reading (l : List ℕ) (at w left x : ℕ) : Type 0 where
+  pub few : left ≤ w
+  pub narrow : w ≤ 8
+  pub there : at + w ≤ length l
+  pub is : x ≡ numberOf (take (w - left) (drop (at + left) l))
+  pub small : x < 256 ^ (w - left)
+
+pub reading-start : {l : List ℕ} {at w : ℕ} → w ≤ 8 → at + w ≤ length l → Reading l at w w 0
+unfolding numberOf
+reading-start {l} {at} {w} h k =
+    let z : w - w ≡ 0 = omega arith in
+    record { few = omega arith; narrow = h; there = k; is = rw z; small = rw z (omega arith) }
+
+-- one byte more keeps the number below the power, and the power below 2 ^ 64
+grow : (k x b : ℕ) → x < 256 ^ k → b < 256 → b + 256 * x < 256 ^ suc k
+grow k x b h g = omega (arith, pow-suc 256 k)
+
+pub reading-fits : {l : List ℕ} {at w left x b : ℕ} → Reading l at w left x → 0 < left → b < 256 → x * 256 + b < 2 ^ 64
+reading-fits {l} {at} {w} {left} {x} {b} r h g =
+    let n : w - left ≤ 7 = omega arith in
+    let p : 256 ^ (w - left) ≤ 256 ^ 7 = pow-le-pow-right (omega arith) n in
+    omega arith
+
+pub reading-next : {l : List ℕ} {at w left x b : ℕ} (d : ℕ) → Reading l at w left x → 0 < left → b ≡ getD l (at + (left - 1)) d → b < 256 → Reading l at w (left - 1) (x * 256 + b)
+unfolding numberOf
+reading-next {l} {at} {w} {left} {x} {b} d r h e g =
+    let n : w - (left - 1) ≡ suc (w - left) = omega arith in
+    let k : at + (left - 1) < length l = omega arith in
+    let s : suc (at + (left - 1)) ≡ at + left = omega arith in
+    let q : numberOf (take (suc (w - left)) (drop (at + (left - 1)) l)) ≡ b + 256 * numberOf (take (w - left) (drop (at + left) l)) =
+    rw (drop-cons l (at + (left - 1)) d k, s, sym e) in
+    let y : x ≡ numberOf (take (w - left) (drop (at + left) l)) = r .is in
+    record {
+      few = omega arith;
+      narrow = r .narrow;
+      there = r .there;
+      is = rw (n, q, sym y) (omega arith);
+      small = rw n (omega (arith, grow (w - left) x b (r .small) g));
+    }
+
+pub reading-end : {l : List ℕ} {at w left x : ℕ} → Reading l at w left x → left ≤ 0 → x ≡ readAt at w l
+unfolding readAt
+reading-end {l} {at} {w} {left} {x} r h =
+    let z : left ≡ 0 = omega arith in
+    let n : w - left ≡ w = omega arith in
+    let m : at + left ≡ at = omega arith in
+    rw (le-leb w 8 (r .narrow), le-leb (at + w) (length l) (r .there)) (rw (n, m) at (r .is))
+
+pub read-wide : (at w : ℕ) (l : List ℕ) → 8 < w → 0 ≡ readAt at w l
+unfolding readAt
+read-wide at w l h = rw (lt-leb w 8 h)
+
+pub read-short : (at w : ℕ) (l : List ℕ) → w ≤ 8 → length l < at + w → 0 ≡ readAt at w l
+unfolding readAt
+read-short at w l h k = rw (le-leb w 8 h, lt-leb (at + w) (length l) k)

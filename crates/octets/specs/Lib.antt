@@ -1,0 +1,2 @@
+-- Little-endian bytes.
+pub mod Octets
