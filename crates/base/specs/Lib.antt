@@ -1,5 +1,6 @@
 -- The definitions that every crate shares.
 pub mod Seq
+pub mod Marked
 pub mod Serial
 pub mod Time
 pub mod Refusals

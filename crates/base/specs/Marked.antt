@@ -1,0 +1,44 @@
+-- Arrays whose places are held or gaps (document 01, "RTT, ETX, score": "the first gap", "the oldest (first of equals)",
+-- "the newest (last of equals)"), over any element type, any mark of being held, and any order.
+use Prim.Native.Nat.{ℕ, suc}
+use mathlib.Core.List.{List, [], _∷_}
+use mathlib.Core.Bool.{Bool, true, false, not, _&&_, _||_}
+use lib.ListN.{set}
+use Rattle.base.specs.Seq.{pick, position, every, keep}
+
+module _ {ℓ} {A : Type ℓ} where
+  -- the place of the last element that passes the test, or the length
+  abbrev pub lastPosition : (A → Bool) → List A → ℕ
+  lastPosition p [] = 0
+  lastPosition p (x ∷ xs) = pick (p x && every (λ y. not (p y)) xs) 0 (suc (lastPosition p xs))
+
+  module _ (held : A → Bool) where
+    -- the place of the first gap, or the length
+    abbrev pub firstGap : List A → ℕ
+    firstGap l = position (λ x. not (held x)) l
+
+    -- in what follows, ahead x y says that x comes before y or is level with it
+    module _ (ahead : A → A → Bool) where
+      -- x is held, and ahead of each one held or level with it
+      abbrev pub leads : List A → A → Bool
+      leads l x = held x && every (ahead x) (keep held l)
+
+      -- the place of the leader, the first of equals, or the length where none is held
+      abbrev pub firstLeader : List A → ℕ
+      firstLeader l = position (leads l) l
+
+      -- the place of the leader, the last of equals, or the length where none is held
+      abbrev pub lastLeader : List A → ℕ
+      lastLeader l = lastPosition (leads l) l
+
+      -- the place for a new one: the first gap, else the leader's place (first of equals)
+      abbrev pub place : List A → ℕ
+      place l = pick (every held l) (firstLeader l) (firstGap l)
+
+      -- x is held and comes before y, or y is a gap
+      abbrev pub overtakes : A → A → Bool
+      overtakes x y = held x && (not (held y) || not (ahead y x))
+
+      -- x is held and comes before y or is level with it, or y is a gap
+      abbrev pub catches : A → A → Bool
+      catches x y = held x && (not (held y) || ahead x y)

@@ -1,0 +1,14 @@
+-- `rtt::spans::joined` meets its contract, by what its callee gives.
+-- Assumes nothing.
+use Rattle.rtt.proofs.spans.joined.Statement.{statement}
+use Rattle.rtt.proofs.spans.joined.Tie as tie
+use borrow.Author.Needs.{needs}
+
+smaller-requires : tie.Need-smaller-requires
+smaller-requires c κs = search needs
+
+returns : tie.Need-returns
+returns c = rw (c .smaller .ensures)
+
+pub joined-spec : {M : Type 1} → statement M
+joined-spec = tie.close (tie.spec smaller-requires returns)

@@ -1,0 +1,14 @@
+-- `rtt::spans::joins` meets its contract, by the elapsed time.
+-- Assumes nothing.
+use Rattle.rtt.proofs.spans.joins.Statement.{statement}
+use Rattle.rtt.proofs.spans.joins.Tie as tie
+use borrow.Author.Needs.{needs}
+
+elapsed-requires : tie.Need-elapsed-requires
+elapsed-requires c κs = search needs
+
+returns : tie.Need-returns
+returns c = cc
+
+pub joins-spec : {M : Type 1} → statement M
+joins-spec = tie.close (tie.spec elapsed-requires returns)

@@ -1,0 +1,23 @@
+-- `rtt::times::lower` meets its contract, by cases of what there is.
+-- Assumes nothing.
+use Rattle.rtt.proofs.times.lower.Statement.{statement}
+use Rattle.rtt.proofs.times.lower.Tie as tie
+use borrow.Author.Needs.{needs}
+
+enum-told : tie.Need-enum-told
+enum-told c = search needs
+
+enum-known-least : tie.Need-enum-known-least
+enum-known-least c = search needs
+
+smaller-requires : tie.Need-smaller-requires
+smaller-requires c κs = search needs
+
+returns : tie.Need-returns
+returns c = rw (c .enum-told .given .1)
+
+returns-2 : tie.Need-returns-2
+returns-2 c = rw (c .before .before .least .given .1, c .smaller .ensures)
+
+pub lower-spec : {M : Type 1} → statement M
+lower-spec = tie.close (tie.spec enum-told enum-known-least smaller-requires returns returns-2)

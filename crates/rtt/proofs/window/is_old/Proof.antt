@@ -1,0 +1,14 @@
+-- `rtt::window::is_old` meets its contract, by the elapsed time.
+-- Assumes nothing.
+use Rattle.rtt.proofs.window.is_old.Statement.{statement}
+use Rattle.rtt.proofs.window.is_old.Tie as tie
+use borrow.Author.Needs.{needs}
+
+elapsed-requires : tie.Need-elapsed-requires
+elapsed-requires c κs = search needs
+
+returns : tie.Need-returns
+returns c = cc
+
+pub is-old-spec : {M : Type 1} → statement M
+is-old-spec = tie.close (tie.spec elapsed-requires returns)

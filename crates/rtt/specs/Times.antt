@@ -1,0 +1,33 @@
+-- The least and the largest of some round trips, and the timeout (document 01, "RTT, ETX, score": "Timeout: the largest of floor,
+-- 3 × last, and the smaller of 3 × largest and cap").
+use Prim.Native.Nat.{ℕ, _*_, _-_, _^_, min, max}
+use mathlib.Core.List.{List, foldl}
+use Rattle.base.specs.declared.types.MaybeTime.{MaybeTime}
+use Rattle.base.specs.declared.types.MaybeTime.the-variants.{None, Some}
+
+-- the smaller of what there is and one more
+abbrev pub lowerOf : MaybeTime → ℕ → MaybeTime
+lowerOf None x = Some x
+lowerOf (Some a) x = Some (min a x)
+
+-- the larger of what there is and one more
+abbrev pub higherOf : MaybeTime → ℕ → MaybeTime
+higherOf None x = Some x
+higherOf (Some a) x = Some (max a x)
+
+-- the least of a list, or none
+abbrev pub leastOf : List ℕ → MaybeTime
+leastOf l = foldl lowerOf None l
+
+-- the largest of a list, or none
+abbrev pub largestOf : List ℕ → MaybeTime
+largestOf l = foldl higherOf None l
+
+-- 3 × RTT, which stops at 2 ^ 64 - 1; where nothing was measured, 0
+abbrev pub thriceOf : MaybeTime → ℕ
+thriceOf None = 0
+thriceOf (Some r) = min (3 * r) (2 ^ 64 - 1)
+
+-- the largest of floor, 3 × last, and the smaller of 3 × largest and cap
+abbrev pub timeoutOf : MaybeTime → MaybeTime → ℕ → ℕ → ℕ
+timeoutOf last largest floor cap = max (max floor (thriceOf last)) (min (thriceOf largest) cap)
