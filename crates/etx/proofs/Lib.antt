@@ -1,0 +1,5 @@
+-- Laws of the definitions in specs/, and of casts.
+mod Casts
+pub mod Literals
+pub mod WithinLaws
+pub mod ScoreLaws

@@ -1,0 +1,4 @@
+-- Laws of the definitions in specs/.
+pub mod KeyLaws
+pub mod ValueLaws
+pub mod OrderLaws

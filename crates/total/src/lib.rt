@@ -1,0 +1,65 @@
+// Orders on f64: totalOrder on bit patterns and on values, clamp and maximum.
+ghost use mathlib.Core.Path.{_≡_};
+ghost use lib.Ieee.{binary64};
+ghost use Rattle.total.specs.Total.{totalAt, keyAt};
+ghost use Rattle.total.specs.Values.{totalOf, clampOf, maxOf};
+
+// Where a pattern stands in totalOrder: a positive one counts up from 2^63, a negative one down from below it.
+pub fn order_key(b: u64) -> u64
+    ensures { λ r. ⌜ r ≡ keyAt binary64 b ⌝ }
+{
+    if b < 0x8000_0000_0000_0000 {
+        b + 0x8000_0000_0000_0000
+    } else {
+        u64::MAX - b
+    }
+}
+
+// totalOrder of the patterns a and b: whether a comes not after b. NaNs of both signs and any payload are ordered.
+pub fn total_bits(a: u64, b: u64) -> bool
+    ensures { λ r. ⌜ r ≡ totalAt binary64 a b ⌝ }
+{
+    order_key(a) <= order_key(b)
+}
+
+// Whether x comes not after y. A NaN stands where a positive quiet NaN stands, after +infinity.
+pub fn total(x: f64, y: f64) -> bool
+    ensures { λ r. ⌜ r ≡ totalOf x y ⌝ }
+{
+    if y != y {
+        return true;
+    }
+    if x != x {
+        return false;
+    }
+    if x < y {
+        return true;
+    }
+    if y < x {
+        return false;
+    }
+    if x == 0.0 {
+        return 1.0 / x <= 1.0 / y;
+    }
+    true
+}
+
+// x where it lies within lo and hi, else the end that it is beyond. A NaN stays one.
+pub fn clamp(x: f64, lo: f64, hi: f64) -> f64
+    ensures { λ r. ⌜ r ≡ clampOf x lo hi ⌝ }
+{
+    if x < lo {
+        return lo;
+    }
+    if x > hi { hi } else { x }
+}
+
+// The larger of the two, the first of equal ones. A NaN gives the other.
+pub fn max(x: f64, y: f64) -> f64
+    ensures { λ r. ⌜ r ≡ maxOf x y ⌝ }
+{
+    if x != x {
+        return y;
+    }
+    if x < y { y } else { x }
+}
