@@ -3,7 +3,7 @@
 
 use crate::calls::op;
 use crate::entries;
-use oracle::proto::path::script::{CALL, Call, IMAGE, path_bytes, run};
+use oracle::proto::path::script::{CALL, Call, IMAGE, path_bytes, run, word};
 use std::hint::black_box;
 use std::time::Instant;
 
@@ -19,6 +19,13 @@ pub fn bench() {
     for (name, part) in parts() {
         let script = repeat(&part);
         let mut out = vec![0; script.len() + IMAGE];
+        let mut rust = out.clone();
+        assert_eq!(entries::script(&script, &mut out), run(&script, &mut rust));
+        assert!(out == rust, "ours differs from the Rust's: {name}");
+        assert!(
+            (0..CALLS).all(|n| word(&rust, 6 * n) == 0),
+            "refused: {name}"
+        );
         let mut both = [Vec::new(), Vec::new()];
         for _ in 0..RUNS {
             both[0].push(time(|| {

@@ -10,6 +10,8 @@ use oracle::proto::path::script::{CALL, Call, IMAGE, Path, Reply, word};
 /// Scripts of a flavour, and the most calls in one.
 const SCRIPTS: usize = 3_000;
 const CALLS: u64 = 80;
+/// Calls in a long script, one of each flavour, of which just the end is compared.
+const LONG: usize = 3_000;
 /// Bytes lent past those that are written.
 const PAST: usize = 40;
 /// Runs that a difference is made smaller in.
@@ -53,6 +55,7 @@ impl Scripts {
             self.script(&calls, flavour.name);
             self.refusals(&calls, &mut rng);
         }
+        self.long(&script(flavour, Rng::new(rng.next()), LONG), flavour.name);
         self.flavours
             .push((flavour.name, flavour.seed, self.calls - before));
     }
@@ -78,6 +81,16 @@ impl Scripts {
             self.runs += 1;
         }
         self.scripts += 1;
+        self.calls += calls.len() as u64;
+    }
+
+    /// A long script: its answers and its last image.
+    fn long(&mut self, calls: &[Call], name: &str) {
+        if difference(calls).is_some() {
+            report(&smallest(calls.to_vec()), name);
+        }
+        self.scripts += 1;
+        self.runs += 1;
         self.calls += calls.len() as u64;
     }
 
@@ -137,14 +150,15 @@ struct Ours {
     rest: bool,
 }
 
-/// Run ours on a script, on bytes at an odd place, with more lent than needed.
+/// Run ours on a script, on bytes at an odd place, with just enough bytes lent or with more.
 fn ours(script: &[u8]) -> Ours {
     let mut given = vec![0; script.len() + 1];
     given[1..].copy_from_slice(script);
     let written = script.len() + IMAGE;
     let fill = |n: usize| (n * 7 + 90) as u8;
     let mut bytes: Vec<u8> = (0..written + PAST).map(fill).collect();
-    let number = entries::script(&given[1..], &mut bytes[..written + PAST / 2]);
+    let lent = written + script.len() / CALL % 2 * (PAST / 2);
+    let number = entries::script(&given[1..], &mut bytes[..lent]);
     let rest = (written..written + PAST).all(|n| bytes[n] == fill(n)) && given[1..] == *script;
     Ours {
         number,
