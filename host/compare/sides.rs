@@ -1,0 +1,46 @@
+//! Ours beside the Rust: `sides compare`, `sides bench`.
+
+mod bench;
+mod calls;
+mod entries;
+mod flavours;
+mod random;
+mod scripts;
+mod single;
+
+use scripts::{Scripts, name_of};
+use single::Single;
+use std::time::Instant;
+
+fn main() {
+    match std::env::args().nth(1).as_deref() {
+        Some("bench") => bench::bench(),
+        _ => compare(),
+    }
+}
+
+/// Compare everything, then say what was compared.
+fn compare() {
+    let start = Instant::now();
+    let single = Single::run();
+    println!("{} calls of single functions:", single.calls());
+    for (name, calls) in &single.counts {
+        println!("  {name} {calls}");
+    }
+    let scripts = Scripts::run();
+    println!(
+        "{} calls in {} scripts, {} runs with every beginning, {} refused runs (13, 16):",
+        scripts.calls, scripts.scripts, scripts.runs, scripts.refused
+    );
+    for (name, seed, calls) in &scripts.flavours {
+        println!("  {name} (seed {seed}) {calls}");
+    }
+    println!("  by call, refused in brackets:");
+    for (n, (calls, refused)) in scripts.by_call.iter().enumerate() {
+        println!("    {} {calls} ({refused})", name_of(n));
+    }
+    println!(
+        "no difference; {:.1} seconds",
+        start.elapsed().as_secs_f64()
+    );
+}
