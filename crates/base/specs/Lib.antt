@@ -4,3 +4,4 @@ pub mod Marked
 pub mod Serial
 pub mod Time
 pub mod Refusals
+pub mod Least

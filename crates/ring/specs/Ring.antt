@@ -1,10 +1,12 @@
 -- The places of the ring and of the late list (document 01, "Ring (8) and late list (4)"). A place that is not used is free.
 use Prim.Native.Nat.{ℕ, _-_}
-use mathlib.Core.List.{List, [], _∷_, _++_}
+use mathlib.Core.List.{List, [], _∷_, _++_, map}
 use mathlib.Core.Bool.{Bool, true, false, not}
 use lib.ListN.{length, replicate, drop, set}
 use lib.Dec.{eqb}
 use Rattle.base.specs.Seq.{pick, position, every, keep}
+use Rattle.base.specs.Least.{leastOf}
+use Rattle.base.specs.declared.types.MaybeTime.{MaybeTime}
 use Rattle.base.specs.declared.types.MaybeId.{MaybeId}
 use Rattle.base.specs.declared.types.MaybeId.the-variants.{None}
 use Rattle.ring.specs.Ids.{countsOf}
@@ -67,3 +69,11 @@ remembered l s = drop 1 l ++ (s ∷ [])
 -- the late list after `clear`: the waiting probes enter it in ring order, and it stays as long as it was
 abbrev pub swept : List Sent → List Sent → List Sent
 swept late ring = drop (length (waiting ring)) (late ++ waiting ring)
+
+-- how many probes wait
+unfoldable pub outstandingOf : List Sent → ℕ
+outstandingOf l = length (waiting l)
+
+-- the earliest due instant of the waiting probes, or none
+unfoldable pub earliestDue : List Sent → MaybeTime
+earliestDue l = leastOf (map (λ s. s .due) (waiting l))

@@ -1,8 +1,8 @@
 // The places of the ring and of the late list.
 ghost use mathlib.Core.Path.{_≡_};
-ghost use Rattle.ring.specs.Ring.{firstFree, fineOf, allCount, noSent, isProbe, found, packed, takenOut, remembered, swept};
+ghost use Rattle.ring.specs.Ring.{firstFree, fineOf, allCount, noSent, isProbe, found, packed, takenOut, remembered, swept, outstandingOf, earliestDue};
 use crate::types::Sent;
-use base::types::MaybeId;
+use base::types::{MaybeId, MaybeTime};
 
 // The place of the first entry that is free, or 8.
 pub fn first_free(ring: [Sent; 8]) -> usize
@@ -149,4 +149,36 @@ pub fn sweep(late: [Sent; 4], ring: [Sent; 8]) -> [Sent; 4]
         }
     }
     out
+}
+
+// How many probes wait.
+pub fn outstanding(ring: [Sent; 8]) -> usize
+    ensures { λ r. ⌜ r ≡ outstandingOf ring ⌝ }
+{
+    let mut n: usize = 0;
+    let mut i: usize = 0;
+    while i < 8 {
+        let s = ring[i];
+        i += 1;
+        if s.used {
+            n += 1;
+        }
+    }
+    n
+}
+
+// The earliest due instant of the waiting probes.
+pub fn earliest_due(ring: [Sent; 8]) -> MaybeTime
+    ensures { λ r. ⌜ r ≡ earliestDue ring ⌝ }
+{
+    let mut least = MaybeTime::None;
+    let mut i: usize = 0;
+    while i < 8 {
+        let s = ring[i];
+        i += 1;
+        if s.used {
+            least = base::time::lower(least, s.due);
+        }
+    }
+    least
 }

@@ -13,7 +13,7 @@ use Rattle.base.specs.declared.types.MaybeTime.the-variants.{None, Some}
 use Rattle.base.proofs.Cases.{on-flag, on-order, never}
 use Rattle.base.proofs.ScanLaws.{map-append, keep-set}
 use Rattle.base.proofs.MarkedLaws.{by-least, place-there}
-use Rattle.rtt.specs.Times.{lowerOf, leastOf}
+use Rattle.base.specs.Least.{lowerOf, leastOf}
 use Rattle.rtt.specs.Samples.{noSample, isSample, noLater, keptSample, keptSamples, samplePlace, newSample, withSample, minRtt}
 use Rattle.rtt.specs.Spans as spans
 use Rattle.rtt.specs.Spans.{noSpan, isSpan, keptSpan, keptSpans, newestSpan, spanPlace, joinsOf, joinedOf, newSpan, spanOf, baseRtt}

@@ -9,7 +9,8 @@ use Rattle.base.specs.Seq.{pick, keep}
 use Rattle.base.specs.Marked.{place, firstLeader}
 use Rattle.base.specs.Time.{elapsedOf}
 use Rattle.base.specs.declared.types.MaybeTime.{MaybeTime}
-use Rattle.rtt.specs.Times.{leastOf, largestOf}
+use Rattle.base.specs.Least.{leastOf}
+use Rattle.rtt.specs.Times.{largestOf}
 use Rattle.rtt.specs.declared.types.Sample.{Sample}
 
 -- a gap, as a path starts with

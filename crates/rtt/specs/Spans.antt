@@ -10,7 +10,7 @@ use Rattle.base.specs.Seq.{pick, keep}
 use Rattle.base.specs.Marked.{place, firstLeader, lastLeader}
 use Rattle.base.specs.Time.{elapsedOf}
 use Rattle.base.specs.declared.types.MaybeTime.{MaybeTime}
-use Rattle.rtt.specs.Times.{leastOf}
+use Rattle.base.specs.Least.{leastOf}
 use Rattle.rtt.specs.declared.types.Span.{Span}
 
 -- a gap, as a path starts with

@@ -1,23 +1,14 @@
--- The least and the largest of some round trips, and the timeout (document 01, "RTT, ETX, score": "Timeout: the largest of floor,
+-- The largest of some round trips, and the timeout (document 01, "RTT, ETX, score": "Timeout: the largest of floor,
 -- 3 × last, and the smaller of 3 × largest and cap").
 use Prim.Native.Nat.{ℕ, _*_, _-_, _^_, min, max}
 use mathlib.Core.List.{List, foldl}
 use Rattle.base.specs.declared.types.MaybeTime.{MaybeTime}
 use Rattle.base.specs.declared.types.MaybeTime.the-variants.{None, Some}
 
--- the smaller of what there is and one more
-abbrev pub lowerOf : MaybeTime → ℕ → MaybeTime
-lowerOf None x = Some x
-lowerOf (Some a) x = Some (min a x)
-
 -- the larger of what there is and one more
 abbrev pub higherOf : MaybeTime → ℕ → MaybeTime
 higherOf None x = Some x
 higherOf (Some a) x = Some (max a x)
-
--- the least of a list, or none
-abbrev pub leastOf : List ℕ → MaybeTime
-leastOf l = foldl lowerOf None l
 
 -- the largest of a list, or none
 abbrev pub largestOf : List ℕ → MaybeTime

@@ -129,7 +129,7 @@ fn joined(s: Span, now: u64, rtt: u64) -> Span
     Span {
         from: s.from,
         to: now,
-        rtt: crate::times::smaller(s.rtt, rtt),
+        rtt: base::time::smaller(s.rtt, rtt),
         used: true,
     }
 }
@@ -175,7 +175,7 @@ pub fn base_rtt(spans: [Span; 8]) -> MaybeTime
         let s = spans[i];
         i += 1;
         if s.used {
-            least = crate::times::lower(least, s.rtt);
+            least = base::time::lower(least, s.rtt);
         }
     }
     least

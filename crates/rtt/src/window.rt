@@ -113,7 +113,7 @@ pub fn min_rtt(rtts: [Sample; 32]) -> MaybeTime
         let s = rtts[i];
         i += 1;
         if s.used {
-            least = crate::times::lower(least, s.rtt);
+            least = base::time::lower(least, s.rtt);
         }
     }
     least

@@ -6,7 +6,7 @@ use Rattle.base.specs.declared.types.MaybeTime.the-variants.{None}
 use Rattle.rtt.proofs.spans.base_rtt.Statement.{statement}
 use Rattle.rtt.proofs.spans.base_rtt.Tie as tie
 use Rattle.rtt.specs.Spans.{isSpan, baseRtt}
-use Rattle.rtt.specs.Times.{lowerOf}
+use Rattle.base.specs.Least.{lowerOf}
 use Rattle.rtt.specs.declared.types.Span.{Span}
 use borrow.Author.Needs.{needs}
 

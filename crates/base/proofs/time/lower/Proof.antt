@@ -1,7 +1,7 @@
--- `rtt::times::lower` meets its contract, by cases of what there is.
+-- `base::time::lower` meets its contract, by cases of what there is.
 -- Assumes nothing.
-use Rattle.rtt.proofs.times.lower.Statement.{statement}
-use Rattle.rtt.proofs.times.lower.Tie as tie
+use Rattle.base.proofs.time.lower.Statement.{statement}
+use Rattle.base.proofs.time.lower.Tie as tie
 use borrow.Author.Needs.{needs}
 
 enum-told : tie.Need-enum-told
