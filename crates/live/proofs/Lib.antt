@@ -1,2 +1,3 @@
 -- Laws that the proofs of the methods cite.
 mod ProbeLaws
+mod TrafficLaws

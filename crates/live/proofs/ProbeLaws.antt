@@ -14,7 +14,7 @@ use Rattle.ring.specs.Lapse.{isPassed, deferOf, scanOf, isPadded}
 use Rattle.ring.specs.declared.types.Sent.{Sent}
 use Rattle.ring.specs.declared.types.Ids.{Ids}
 use Rattle.ring.specs.declared.lapse.Scanned.{Scanned}
-use Rattle.stop.specs.Stop.{quietFrom}
+use Rattle.stop.specs.Silence.{quietFrom}
 use Rattle.stop.specs.declared.types.Silence.{Silence}
 use Rattle.live.specs.Path.{withProbes, withRing, withLate}
 use Rattle.live.specs.Probe.{noId, newSent, sentLadder, sendOf, answerOf, lapseAnswer, expireOf}

@@ -15,7 +15,7 @@ use Rattle.ring.specs.declared.types.Sent.{Sent}
 use Rattle.ring.specs.declared.types.Ids.{Ids}
 use Rattle.ring.specs.declared.lapse.Scanned.{Scanned}
 use Rattle.seek.specs.declared.types.Ladder.{Ladder}
-use Rattle.stop.specs.Stop.{quietFrom}
+use Rattle.stop.specs.Silence.{quietFrom}
 use Rattle.live.specs.Path.{withProbes, withRing, withLate, withIds}
 use Rattle.live.specs.declared.types.Liveness.{Liveness}
 use Rattle.live.specs.declared.types.Taking.{Taking}

@@ -74,7 +74,7 @@ impl Liveness {
         let next = kept.next_id;
         let id = ring::ids::taken(next, draw);
         let ids = ring::ids::next_ids(kept, id);
-        let silence = stop::quiet_from(self.silence, at);
+        let silence = stop::silence::quiet_from(self.silence, at);
         let last = MaybeLen::Some(short);
         let ladder = Ladder {
             last: last,

@@ -1,9 +1,10 @@
 // Sizes: the ladder, the proven size and the upward search.
 ghost use mathlib.Core.Path.{_≡_};
 ghost use Rattle.live.specs.Search.{freshOf, lenOr, sizeOf, seekSizeOf, noProve, changedAnswer, proveOf, seekSendOf, ringed, seekRingOf, noLen, seekAnswerOf, noRaise, raisedAnswer, seekProvedOf, noJudge, lostAnswer, seekJudgeOf};
-use base::types::*;
 use crate::types::*;
-use seek::types::{Ladder, Sizes};
+use base::types::*;
+use seek::types::Ladder;
+use seek::types::Sizes;
 
 // A length, or the refusal where there is none.
 fn len_or(len: MaybeLen, why: Refusal) -> LenAnswer
@@ -20,14 +21,21 @@ fn no_prove(path: Liveness, why: Refusal) -> Proving
     ensures { λ r. ⌜ r ≡ noProve path why ⌝ }
 {
     let answer = ProveAnswer::Refused(why);
-    Proving { path: path, answer: answer }
+    Proving {
+        path: path,
+        answer: answer,
+    }
 }
 
 // Whether the proven size changed.
 fn changed_answer(changed: bool) -> ProveAnswer
     ensures { λ r. ⌜ r ≡ changedAnswer changed ⌝ }
 {
-    if changed { ProveAnswer::Changed } else { ProveAnswer::Same }
+    if changed {
+        ProveAnswer::Changed
+    } else {
+        ProveAnswer::Same
+    }
 }
 
 // A refused `seek_answer`: the path as it came.
@@ -35,7 +43,10 @@ fn no_len(path: Liveness, why: Refusal) -> Settling
     ensures { λ r. ⌜ r ≡ noLen path why ⌝ }
 {
     let answer = LenAnswer::Refused(why);
-    Settling { path: path, answer: answer }
+    Settling {
+        path: path,
+        answer: answer,
+    }
 }
 
 // A refused `seek_proved`: the path as it came.
@@ -43,14 +54,21 @@ fn no_raise(path: Liveness, why: Refusal) -> Raising
     ensures { λ r. ⌜ r ≡ noRaise path why ⌝ }
 {
     let answer = RaiseAnswer::Refused(why);
-    Raising { path: path, answer: answer }
+    Raising {
+        path: path,
+        answer: answer,
+    }
 }
 
 // Whether the proven size rose.
 fn raised_answer(raised: bool) -> RaiseAnswer
     ensures { λ r. ⌜ r ≡ raisedAnswer raised ⌝ }
 {
-    if raised { RaiseAnswer::Raised } else { RaiseAnswer::Kept }
+    if raised {
+        RaiseAnswer::Raised
+    } else {
+        RaiseAnswer::Kept
+    }
 }
 
 // A refused `seek_judge`: the path as it came.
@@ -58,14 +76,21 @@ fn no_judge(path: Liveness, why: Refusal) -> Judging
     ensures { λ r. ⌜ r ≡ noJudge path why ⌝ }
 {
     let answer = JudgeAnswer::Refused(why);
-    Judging { path: path, answer: answer }
+    Judging {
+        path: path,
+        answer: answer,
+    }
 }
 
 // Whether the search probe was lost now.
 fn lost_answer(lost: bool) -> JudgeAnswer
     ensures { λ r. ⌜ r ≡ lostAnswer lost ⌝ }
 {
-    if lost { JudgeAnswer::Lost } else { JudgeAnswer::Waits }
+    if lost {
+        JudgeAnswer::Lost
+    } else {
+        JudgeAnswer::Waits
+    }
 }
 
 // A search probe held in the ring: the next may go `gap` after it was sent; a refused one changes nothing.
@@ -79,7 +104,10 @@ fn ring_search(s: Sending, at: u64, gap: u64) -> Sending
             let mut out = s.path;
             let sizes = seek::search::seek_next(out.sizes, at, gap);
             out.sizes = sizes;
-            Sending { path: out, answer: answer }
+            Sending {
+                path: out,
+                answer: answer,
+            }
         }
     }
 }
@@ -92,7 +120,10 @@ impl Liveness {
         let ids = ring::ids::fresh_ids(self.ids);
         let sizes = seek::search::fresh_sizes(self.sizes);
         let none = MaybeLen::None;
-        let ladder = Ladder { last: none, fallen: false };
+        let ladder = Ladder {
+            last: none,
+            fallen: false,
+        };
         let mut out = self;
         out.ids = ids;
         out.sizes = sizes;
@@ -131,7 +162,10 @@ impl Liveness {
         let mut out = self;
         out.sizes = sizes;
         let answer = changed_answer(done.changed);
-        Proving { path: out, answer: answer }
+        Proving {
+            path: out,
+            answer: answer,
+        }
     }
 
     // The length of the next search probe, if one may go now.
@@ -163,7 +197,10 @@ impl Liveness {
         let sizes = seek::search::seek_send(out.sizes, at, len as u16, id);
         out.sizes = sizes;
         let answer = IdAnswer::Id(id);
-        Sending { path: out, answer: answer }
+        Sending {
+            path: out,
+            answer: answer,
+        }
     }
 
     // A search probe of len bytes in the ring, as an ordinary probe.
@@ -202,7 +239,10 @@ impl Liveness {
                 let mut out = self;
                 out.sizes = sizes;
                 let answer = LenAnswer::Len(n);
-                Settling { path: out, answer: answer }
+                Settling {
+                    path: out,
+                    answer: answer,
+                }
             }
         }
     }
@@ -223,7 +263,10 @@ impl Liveness {
         let mut out = self;
         out.sizes = sizes;
         let answer = raised_answer(done.raised);
-        Raising { path: out, answer: answer }
+        Raising {
+            path: out,
+            answer: answer,
+        }
     }
 
     // Judges the search probe that is out: it is lost now, or it waits.
@@ -244,6 +287,9 @@ impl Liveness {
         let mut out = self;
         out.sizes = sizes;
         let answer = lost_answer(done.lost);
-        Judging { path: out, answer: answer }
+        Judging {
+            path: out,
+            answer: answer,
+        }
     }
 }

@@ -2,7 +2,8 @@
 ghost use mathlib.Core.Path.{_≡_};
 ghost use Rattle.ring.specs.Ring.{firstFree, fineOf, allCount, noSent, isProbe, found, packed, takenOut, remembered, swept, outstandingOf, earliestDue};
 use crate::types::Sent;
-use base::types::{MaybeId, MaybeTime};
+use base::types::MaybeId;
+use base::types::MaybeTime;
 
 // The place of the first entry that is free, or 8.
 pub fn first_free(ring: [Sent; 8]) -> usize

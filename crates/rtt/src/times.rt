@@ -40,5 +40,8 @@ fn thrice(rtt: MaybeTime) -> u64
 pub fn timeout(last: MaybeTime, largest: MaybeTime, floor: u64, cap: u64) -> u64
     ensures { λ r. ⌜ r ≡ timeoutOf last largest floor cap ⌝ }
 {
-    larger(larger(floor, thrice(last)), base::time::smaller(thrice(largest), cap))
+    larger(
+        larger(floor, thrice(last)),
+        base::time::smaller(thrice(largest), cap),
+    )
 }

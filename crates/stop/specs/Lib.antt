@@ -1,2 +1,2 @@
--- stub
-pub mod Stop
+-- What a path's silence and stop are (document 01, "Files and tail", last paragraph).
+pub mod Silence

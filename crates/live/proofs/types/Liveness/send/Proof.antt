@@ -9,7 +9,7 @@ use Rattle.ring.proofs.ids.drop_since.Reads as drop-since-reads
 use Rattle.ring.proofs.ids.next_ids.Reads as next-ids-reads
 use Rattle.ring.proofs.ids.taken.Reads as taken-reads
 use Rattle.ring.proofs.ring.first_free.Reads as first-free-reads
-use Rattle.stop.proofs.quiet_from.Reads as quiet-from-reads
+use Rattle.stop.proofs.silence.quiet_from.Reads as quiet-from-reads
 
 -- src/probe.rt:60:13
 no-id-requires : tie.Need-no-id-requires

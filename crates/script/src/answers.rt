@@ -1,0 +1,256 @@
+// Answers as numbers: the refusal number or 0, then the values, 0 where there are fewer than five.
+ghost use mathlib.Core.Path.{_≡_};
+ghost use Rattle.base.specs.Refusals.{refusalNumber};
+ghost use Rattle.script.specs.Answers.{flagOf, plain, valued, timed, idCalled, answerCalled, expiredCalled, doneCalled, lenCalled, timeCalled, provedCalled, raisedCalled, judgedCalled};
+use crate::types::Called;
+use base::types::*;
+use live::types::*;
+
+// A flag as a number.
+pub fn flag(on: bool) -> u64
+    ensures { λ r. ⌜ r ≡ flagOf on ⌝ }
+{
+    if on { 1 } else { 0 }
+}
+
+// The number of a refusal in document 01's table.
+pub fn number(why: Refusal) -> u64
+    ensures { λ r. ⌜ r ≡ refusalNumber why ⌝ }
+{
+    match why {
+        Refusal::Slot => 1,
+        Refusal::Empty => 2,
+        Refusal::Held => 3,
+        Refusal::Flag => 4,
+        Refusal::Length => 5,
+        Refusal::Duration => 6,
+        Refusal::Margin => 7,
+        Refusal::Full => 8,
+        Refusal::Unknown => 9,
+        Refusal::NoSize => 10,
+        Refusal::NoPath => 11,
+        Refusal::Index => 12,
+        Refusal::Cut => 13,
+        Refusal::Map => 14,
+        Refusal::Kind => 15,
+        Refusal::Lent => 16,
+    }
+}
+
+// A call that gives a path and no value.
+pub fn give(path: Liveness) -> Called
+    ensures { λ r. ⌜ r ≡ plain path ⌝ }
+{
+    Called {
+        path: path,
+        words: [0, 0, 0, 0, 0, 0],
+    }
+}
+
+// A call that leaves the path and gives one number.
+pub fn tell(path: Liveness, x: u64) -> Called
+    ensures { λ r. ⌜ r ≡ valued path x ⌝ }
+{
+    Called {
+        path: path,
+        words: [0, x, 0, 0, 0, 0],
+    }
+}
+
+// A call that leaves the path and gives an instant or a duration, if there is one.
+pub fn tell_time(path: Liveness, x: MaybeTime) -> Called
+    ensures { λ r. ⌜ r ≡ timed path x ⌝ }
+{
+    match x {
+        MaybeTime::None => Called {
+            path: path,
+            words: [0, 0, 0, 0, 0, 0],
+        },
+        MaybeTime::Some(t) => Called {
+            path: path,
+            words: [0, 1, t, 0, 0, 0],
+        },
+    }
+}
+
+// What `send`, `seek_send` and `seek_ring` give.
+pub fn of_sending(s: Sending) -> Called
+    ensures { λ r. ⌜ r ≡ idCalled s ⌝ }
+{
+    let answer = s.answer;
+    let path = s.path;
+    match answer {
+        IdAnswer::Id(id) => Called {
+            path: path,
+            words: [0, id as u64, 0, 0, 0, 0],
+        },
+        IdAnswer::Refused(why) => Called {
+            path: path,
+            words: [number(why), 0, 0, 0, 0, 0],
+        },
+    }
+}
+
+// What `answer` gives.
+pub fn of_answering(s: Answering) -> Called
+    ensures { λ r. ⌜ r ≡ answerCalled s ⌝ }
+{
+    let answer = s.answer;
+    let path = s.path;
+    match answer {
+        Answer::InTime(p) => Called {
+            path: path,
+            words: [0, 1, p.probe_id as u64, p.at, p.due, p.len as u64],
+        },
+        Answer::Late(p) => Called {
+            path: path,
+            words: [0, 2, p.probe_id as u64, p.at, p.due, p.len as u64],
+        },
+        Answer::Refused(why) => Called {
+            path: path,
+            words: [number(why), 0, 0, 0, 0, 0],
+        },
+    }
+}
+
+// What `expire` gives.
+pub fn of_expiring(s: Expiring) -> Called
+    ensures { λ r. ⌜ r ≡ expiredCalled s ⌝ }
+{
+    let answer = s.answer;
+    let path = s.path;
+    match answer {
+        Expired::None => Called {
+            path: path,
+            words: [0, 0, 0, 0, 0, 0],
+        },
+        Expired::Counted => Called {
+            path: path,
+            words: [0, 1, 0, 0, 0, 0],
+        },
+        Expired::NotCounted => Called {
+            path: path,
+            words: [0, 2, 0, 0, 0, 0],
+        },
+        Expired::Refused(why) => Called {
+            path: path,
+            words: [number(why), 0, 0, 0, 0, 0],
+        },
+    }
+}
+
+// What `sample`, `heard` and `shed` give.
+pub fn of_doing(s: Doing) -> Called
+    ensures { λ r. ⌜ r ≡ doneCalled s ⌝ }
+{
+    let answer = s.answer;
+    let path = s.path;
+    match answer {
+        Done::Done => Called {
+            path: path,
+            words: [0, 0, 0, 0, 0, 0],
+        },
+        Done::Refused(why) => Called {
+            path: path,
+            words: [number(why), 0, 0, 0, 0, 0],
+        },
+    }
+}
+
+// A length as an answer.
+pub fn of_len(path: Liveness, answer: LenAnswer) -> Called
+    ensures { λ r. ⌜ r ≡ lenCalled path answer ⌝ }
+{
+    match answer {
+        LenAnswer::Len(n) => Called {
+            path: path,
+            words: [0, n as u64, 0, 0, 0, 0],
+        },
+        LenAnswer::Refused(why) => Called {
+            path: path,
+            words: [number(why), 0, 0, 0, 0, 0],
+        },
+    }
+}
+
+// A duration as an answer.
+pub fn of_time(path: Liveness, answer: TimeAnswer) -> Called
+    ensures { λ r. ⌜ r ≡ timeCalled path answer ⌝ }
+{
+    match answer {
+        TimeAnswer::Time(t) => Called {
+            path: path,
+            words: [0, t, 0, 0, 0, 0],
+        },
+        TimeAnswer::Refused(why) => Called {
+            path: path,
+            words: [number(why), 0, 0, 0, 0, 0],
+        },
+    }
+}
+
+// What `prove` gives.
+pub fn of_proving(s: Proving) -> Called
+    ensures { λ r. ⌜ r ≡ provedCalled s ⌝ }
+{
+    let answer = s.answer;
+    let path = s.path;
+    match answer {
+        ProveAnswer::Changed => Called {
+            path: path,
+            words: [0, 1, 0, 0, 0, 0],
+        },
+        ProveAnswer::Same => Called {
+            path: path,
+            words: [0, 0, 0, 0, 0, 0],
+        },
+        ProveAnswer::Refused(why) => Called {
+            path: path,
+            words: [number(why), 0, 0, 0, 0, 0],
+        },
+    }
+}
+
+// What `seek_proved` gives.
+pub fn of_raising(s: Raising) -> Called
+    ensures { λ r. ⌜ r ≡ raisedCalled s ⌝ }
+{
+    let answer = s.answer;
+    let path = s.path;
+    match answer {
+        RaiseAnswer::Raised => Called {
+            path: path,
+            words: [0, 1, 0, 0, 0, 0],
+        },
+        RaiseAnswer::Kept => Called {
+            path: path,
+            words: [0, 0, 0, 0, 0, 0],
+        },
+        RaiseAnswer::Refused(why) => Called {
+            path: path,
+            words: [number(why), 0, 0, 0, 0, 0],
+        },
+    }
+}
+
+// What `seek_judge` gives.
+pub fn of_judging(s: Judging) -> Called
+    ensures { λ r. ⌜ r ≡ judgedCalled s ⌝ }
+{
+    let answer = s.answer;
+    let path = s.path;
+    match answer {
+        JudgeAnswer::Lost => Called {
+            path: path,
+            words: [0, 1, 0, 0, 0, 0],
+        },
+        JudgeAnswer::Waits => Called {
+            path: path,
+            words: [0, 0, 0, 0, 0, 0],
+        },
+        JudgeAnswer::Refused(why) => Called {
+            path: path,
+            words: [number(why), 0, 0, 0, 0, 0],
+        },
+    }
+}
