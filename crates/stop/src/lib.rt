@@ -1,0 +1,3 @@
+// The silence of a path, and its stop while it has stopped answering.
+pub mod silence;
+pub mod types;
