@@ -2,7 +2,7 @@
 -- one is a place of the array. At any element type, any mark, any order and any length.
 -- Assumes nothing.
 use Prim.Native.Nat.{ℕ, zero, suc, _+_, _<_, _≤_}
-use mathlib.Core.Path.{_≡_, refl, ap, sym, _∙_}
+use mathlib.Core.Path.{_≡_, refl, sym, _∙_}
 use mathlib.Core.List.{List, [], _∷_}
 use mathlib.Core.Bool.{Bool, true, false, not, _&&_, _||_}
 use native.Mathlib.Numerals.{add-one}
@@ -10,7 +10,7 @@ use native.Mathlib.Omega.{arith}
 use borrow.Author.Tests.{leb-true, leb-false, le-leb, not-true, not-false}
 use lib.Dec.{leb}
 use lib.ListN.{length, getD, List·getD-eq-default}
-use Rattle.base.specs.Seq.{pick, position, every, keep}
+use Rattle.base.specs.Seq.{every, keep}
 use Rattle.base.specs.Marked.{firstGap, leads, firstLeader, lastLeader, place, overtakes, catches}
 use Rattle.base.proofs.Cases.{on-flag, on-order, never}
 use Rattle.base.proofs.ScanLaws.{every-at, every-keep-at, every-keep-of, position-is, position-none, last-is, last-none}

@@ -1,15 +1,15 @@
 -- What one pass over an array asks, at any element type and any length: a map, a fold over the elements that pass a test; and what
 -- the functions of specs/Seq.antt say of each place by its index.
 -- Assumes nothing.
-use Prim.Native.Nat.{ℕ, zero, suc, _+_, _-_, _<_, _≤_}
+use Prim.Native.Nat.{ℕ, zero, suc, _+_, _<_, _≤_}
 use mathlib.Core.Path.{_≡_, refl, ap, sym, _∙_}
-use mathlib.Core.List.{List, [], _∷_, _++_, append-nil, append-assoc, map, foldl, foldl-append}
+use mathlib.Core.List.{List, [], _∷_, _++_, append-nil, map, foldl, foldl-append}
 use mathlib.Core.Bool.{Bool, true, false, not}
 use native.Mathlib.Numerals.{add-one}
 use native.Mathlib.Omega.{arith}
 use lib.ListN.{length, getD, set, take, drop, drop-of-length-le, length-append, length-map}
 use lib.Seq.{drop-cons, take-suc, take-all, set-at, set-split, append-snoc, length-take-le}
-use Rattle.base.specs.Seq.{pick, position, every, keep}
+use Rattle.base.specs.Seq.{position, every, keep}
 use Rattle.base.specs.Marked.{lastPosition}
 use Rattle.base.proofs.Cases.{on-flag}
 use Rattle.base.proofs.SeqLaws.{keep-append}

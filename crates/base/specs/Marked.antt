@@ -2,8 +2,7 @@
 -- "the newest (last of equals)"), over any element type, any mark of being held, and any order.
 use Prim.Native.Nat.{ℕ, suc}
 use mathlib.Core.List.{List, [], _∷_}
-use mathlib.Core.Bool.{Bool, true, false, not, _&&_, _||_}
-use lib.ListN.{set}
+use mathlib.Core.Bool.{Bool, not, _&&_, _||_}
 use Rattle.base.specs.Seq.{pick, position, every, keep}
 
 module _ {ℓ} {A : Type ℓ} where

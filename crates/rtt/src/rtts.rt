@@ -19,3 +19,11 @@ pub fn sample(r: Rtts, now: u64, rtt: u64, window: u64, horizon: u64) -> Rtts
         rtt: last,
     }
 }
+
+// The latest round trip.
+pub fn rtt(r: Rtts) -> MaybeTime
+    ensures { λ k. ⌜ k ≡ r .rtt ⌝ }
+{
+    let last = r.rtt;
+    last
+}

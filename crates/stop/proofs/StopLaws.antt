@@ -1,6 +1,6 @@
 -- The two cases of what is done only while stopped.
 -- Assumes nothing.
-use mathlib.Core.Path.{_≡_, refl, sym, ap, _∙_}
+use mathlib.Core.Path.{_≡_, sym, ap, _∙_}
 use Rattle.stop.specs.Silence.{stopAfter, whileStopped}
 use Rattle.stop.specs.declared.types.Stop.{Stop}
 use Rattle.stop.specs.declared.types.MaybeStop.{MaybeStop}

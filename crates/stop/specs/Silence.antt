@@ -41,11 +41,12 @@ abbrev pub firstStop : MaybeTime → ℕ → Bool → Stop
 firstStop quiet at active =
     record { free = deadlineOf 64 at (seconds 1); gap = seconds 1; used = seconds 1; until = untilOf quiet at active; owed = false }
 
--- unless stopped
+-- unless stopped: a stop that there is stays
 abbrev pub haltIn : MaybeStop → Stop → MaybeStop
 haltIn None x = Some x
 haltIn (Some y) x = Some y
 
+-- `halt` (unless stopped): the first stop; quiet stays
 abbrev pub haltOf : Silence → ℕ → Bool → Silence
 haltOf s at active = record { stop = haltIn (s .stop) (firstStop (s .quiet) at active); quiet = s .quiet }
 
@@ -71,6 +72,7 @@ gapAfter at x = pick (isBefore at (x .until)) (seconds 1) (min (2 * x .gap) (sec
 abbrev pub spentOf : ℕ → Stop → Stop
 spentOf at x = record { free = deadlineOf 64 at (x .gap); gap = gapAfter at x; used = x .gap; until = x .until; owed = false }
 
+-- `spend`, only while stopped
 abbrev pub spendOf : Silence → ℕ → Silence
 spendOf s at = whileStopped (spentOf at) s
 
@@ -78,7 +80,7 @@ spendOf s at = whileStopped (spentOf at) s
 abbrev pub markedOf : Stop → ℕ → Bool → Stop
 markedOf x free owed = record { free = free; gap = x .gap; used = x .used; until = x .until; owed = owed }
 
--- the slot just counted went to a connection: it is owed
+-- `owe`, only while stopped: the slot just counted went to a connection, it is owed
 abbrev pub oweOf : Silence → Silence
 oweOf s = whileStopped (λ x. markedOf x (x .free) true) s
 
@@ -87,22 +89,25 @@ abbrev pub rebasedOf : ℕ → Bool → Stop → Stop
 rebasedOf at ok x =
     pick (x .owed) (markedOf x (pick ok (max (x .free) (deadlineOf 64 at (x .used))) (x .free)) false) x
 
+-- `rebase`, only while stopped
 abbrev pub rebaseOf : Silence → ℕ → Bool → Silence
 rebaseOf s at ok = whileStopped (rebasedOf at ok) s
 
--- whether the path has stopped answering
+-- there is a stop
 abbrev pub isStopped : MaybeStop → Bool
 isStopped None = false
 isStopped (Some x) = true
 
+-- `stopped`: whether the path has stopped answering
 abbrev pub stoppedOf : Silence → Bool
 stoppedOf s = isStopped (s .stop)
 
--- while stopped, the free instant
+-- the stop's free instant
 abbrev pub freeOf : MaybeStop → MaybeTime
 freeOf None = time.None
 freeOf (Some x) = time.Some (x .free)
 
+-- `held`: while stopped, the instant from which the next probe may go
 abbrev pub heldOf : Silence → MaybeTime
 heldOf s = freeOf (s .stop)
 
@@ -111,10 +116,11 @@ abbrev pub gapWith : MaybeTime → ℕ → MaybeTime
 gapWith time.None gap = time.None
 gapWith (time.Some u) gap = time.Some gap
 
--- while stopped with an until, the gap
+-- the stop's gap, where it has an until
 abbrev pub recheckIn : MaybeStop → MaybeTime
 recheckIn None = time.None
 recheckIn (Some x) = gapWith (x .until) (x .gap)
 
+-- `recheck`: while stopped with an until, the least gap after the next probe
 abbrev pub recheckOf : Silence → MaybeTime
 recheckOf s = recheckIn (s .stop)

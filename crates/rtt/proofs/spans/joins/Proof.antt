@@ -8,7 +8,7 @@ elapsed-requires : tie.Need-elapsed-requires
 elapsed-requires c κs = search needs
 
 returns : tie.Need-returns
-returns c = cc
+returns c = rw (c .before .elapsed .ensures)
 
 pub joins-spec : {M : Type 1} → statement M
 joins-spec = tie.close (tie.spec elapsed-requires returns)

@@ -19,7 +19,7 @@ returns : tie.Need-returns
 returns c =
     let l = c .before .before .args .spans in
     let h : length l ≡ 8 = search needs in
-    (place-gap isSpan noLater l (c .before .first-gap .ensures) (omega arith), c .if1 .taken)
+    (place-gap isSpan noLater l (c .before .first-gap .ensures) (omega arith), omega arith)
 
 oldest-requires : tie.Need-oldest-requires
 oldest-requires c κs = search needs

@@ -19,7 +19,7 @@ returns : tie.Need-returns
 returns c =
     let l = c .before .before .args .rtts in
     let h : length l ≡ 32 = search needs in
-    (place-gap isSample noLater l (c .before .first-gap .ensures) (omega arith), c .if1 .taken)
+    (place-gap isSample noLater l (c .before .first-gap .ensures) (omega arith), omega arith)
 
 oldest-requires : tie.Need-oldest-requires
 oldest-requires c κs = search needs
