@@ -14,6 +14,7 @@ use Rattle.live.specs.declared.types.Doing.{Doing}
 use Rattle.live.specs.declared.types.Proving.{Proving}
 use Rattle.live.specs.declared.types.Raising.{Raising}
 use Rattle.live.specs.declared.types.Judging.{Judging}
+use Rattle.live.specs.declared.types.Settling.{Settling}
 use Rattle.live.specs.declared.types.LenAnswer.{LenAnswer}
 use Rattle.live.specs.declared.types.TimeAnswer.{TimeAnswer}
 use Rattle.script.specs.declared.types.Called.{Called}
@@ -39,6 +40,10 @@ abbrev pub timed : Liveness → MaybeTime → Called
 timed p None = plain p
 timed p (Some t) = record { path = p; words = 0 ∷ 1 ∷ t ∷ 0 ∷ 0 ∷ 0 ∷ [] }
 
+-- no such call: 15
+abbrev pub kindless : Liveness → Called
+kindless p = called p 15 0
+
 -- what each method gives
 abbrev pub idCalled : Sending → Called
 idCalled s = called (s .path) (idNumber (s .answer)) (idValue (s .answer))
@@ -54,6 +59,9 @@ doneCalled s = called (s .path) (doneNumber (s .answer)) 0
 
 abbrev pub lenCalled : Liveness → LenAnswer → Called
 lenCalled p a = called p (lenNumber a) (lenValue a)
+
+abbrev pub settledCalled : Settling → Called
+settledCalled s = lenCalled (s .path) (s .answer)
 
 abbrev pub timeCalled : Liveness → TimeAnswer → Called
 timeCalled p a = called p (timeNumber a) (timeValue a)

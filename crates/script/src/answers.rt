@@ -1,7 +1,7 @@
 // Answers as numbers: the refusal number or 0, then the values, 0 where there are fewer than five.
 ghost use mathlib.Core.Path.{_≡_};
 ghost use Rattle.base.specs.Refusals.{refusalNumber};
-ghost use Rattle.script.specs.Answers.{flagOf, plain, valued, timed, idCalled, answerCalled, expiredCalled, doneCalled, lenCalled, timeCalled, provedCalled, raisedCalled, judgedCalled};
+ghost use Rattle.script.specs.Answers.{flagOf, plain, valued, timed, idCalled, answerCalled, expiredCalled, doneCalled, lenCalled, settledCalled, timeCalled, kindless, provedCalled, raisedCalled, judgedCalled};
 use crate::types::Called;
 use base::types::*;
 use live::types::*;
@@ -171,6 +171,22 @@ pub fn of_len(path: Liveness, answer: LenAnswer) -> Called
             words: [number(why), 0, 0, 0, 0, 0],
         },
     }
+}
+
+// What `seek_answer` gives.
+pub fn of_settling(s: Settling) -> Called
+    ensures { λ r. ⌜ r ≡ settledCalled s ⌝ }
+{
+    let answer = s.answer;
+    let path = s.path;
+    of_len(path, answer)
+}
+
+// A call that is none: refused as 15.
+pub fn no_kind(path: Liveness) -> Called
+    ensures { λ r. ⌜ r ≡ kindless path ⌝ }
+{
+    Called { path: path, words: [15, 0, 0, 0, 0, 0] }
 }
 
 // A duration as an answer.

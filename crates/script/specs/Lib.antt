@@ -1,0 +1,3 @@
+-- A script of calls on one path, as bytes.
+pub mod Answers
+pub mod Calls
