@@ -1,0 +1,58 @@
+-- `seek::ladder::rung` meets its contract: the sizes are tried in the ladder's order.
+-- Assumes nothing.
+use mathlib.Core.Path.{sym, _∙_}
+use borrow.Author.Tests.{le-leb, lt-leb}
+use Rattle.seek.specs.Ladder.{rungOf}
+use borrow.Author.Needs.{needs}
+use Rattle.seek.proofs.ladder.rung.Statement.{statement}
+use Rattle.seek.proofs.ladder.rung.Tie as tie
+
+returns : tie.Need-returns
+unfolding rungOf
+returns c = simp (le-leb _ _ (c .if1 .taken))
+
+fits-requires : tie.Need-fits-requires
+fits-requires c κs = search needs
+
+returns-2 : tie.Need-returns-2
+unfolding rungOf
+returns-2 c = simp (lt-leb _ _ (c .before .before .if1 .left), sym (c .before .fits2 .ensures) ∙ c .if2 .taken)
+
+mul-most : tie.Need-mul-most
+mul-most c = search needs
+
+cast-most : tie.Need-cast-most
+cast-most c = search needs
+
+fits-requires-2 : tie.Need-fits-requires-2
+fits-requires-2 c κs = search needs
+
+returns-3 : tie.Need-returns-3
+unfolding rungOf
+returns-3 c = simp (lt-leb _ _ (c .before .before .before .before .if1 .left), sym (c .before .before .before .fits2 .ensures) ∙ c .before .before .if2 .left, sym (c .before .fits3 .ensures) ∙ c .if3 .taken)
+
+fits-requires-3 : tie.Need-fits-requires-3
+fits-requires-3 c κs = search needs
+
+returns-4 : tie.Need-returns-4
+unfolding rungOf
+returns-4 c = simp (lt-leb _ _ (c .before .before .before .before .before .before .if1 .left), sym (c .before .before .before .before .before .fits2 .ensures) ∙ c .before .before .before .before .if2 .left, sym (c .before .before .before .fits3 .ensures) ∙ c .before .before .if3 .left, sym (c .before .fits4 .ensures) ∙ c .if4 .taken)
+
+returns-5 : tie.Need-returns-5
+unfolding rungOf
+returns-5 c = simp (lt-leb _ _ (c .before .before .before .before .before .before .if1 .left), sym (c .before .before .before .before .before .fits2 .ensures) ∙ c .before .before .before .before .if2 .left, sym (c .before .before .before .fits3 .ensures) ∙ c .before .before .if3 .left, sym (c .before .fits4 .ensures) ∙ c .if4 .left)
+
+pub rung-spec : {M : Type 1} → statement M
+rung-spec =
+    tie.close
+    (tie.spec
+    returns
+    fits-requires
+    returns-2
+    mul-most
+    cast-most
+    fits-requires-2
+    returns-3
+    fits-requires-3
+    returns-4
+    returns-5)

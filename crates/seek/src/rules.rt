@@ -1,0 +1,76 @@
+// The search's rules on sizes alone: no clock and no identifiers.
+ghost use mathlib.Core.Path.{_≡_};
+ghost use Prim.Native.Nat.{min};
+ghost use Rattle.seek.specs.Rules.{proposalOf, lowerOf, knownOf, risesOf, raisedOf, closeOf};
+use crate::types::*;
+use base::types::*;
+
+// The next size to try: full with none lost, else halfway between proven and lost; none once they are close, or full is proven.
+pub fn proposal(lost: u16, proven: u16, full: u16) -> MaybeLen
+    ensures { λ r. ⌜ r ≡ proposalOf lost proven full ⌝ }
+{
+    if full <= proven {
+        return MaybeLen::None;
+    }
+    if lost == 0 {
+        return MaybeLen::Some(full);
+    }
+    if (proven as u32) + SEEK_STEP < (lost as u32) {
+        return MaybeLen::Some(proven + (lost - proven) / 2);
+    }
+    MaybeLen::None
+}
+
+// The smaller of two sizes.
+pub fn smaller(a: u16, b: u16) -> u16
+    ensures { λ r. ⌜ r ≡ min a b ⌝ }
+{
+    if b < a { b } else { a }
+}
+
+// The lost size once `len` is lost too: the smaller.
+pub fn lose(lost: u16, len: u16) -> u16
+    ensures { λ r. ⌜ r ≡ lowerOf lost len ⌝ }
+{
+    if lost == 0 {
+        return len;
+    }
+    smaller(lost, len)
+}
+
+// What counts as proven: the smallest size where nothing is.
+pub fn known(proven: MaybeLen) -> u16
+    ensures { λ r. ⌜ r ≡ knownOf 27 proven ⌝ }
+{
+    let MaybeLen::Some(len) = proven else {
+        return PATH_PROBE_MIN_SIZE;
+    };
+    len
+}
+
+// Whether an acknowledgement at this size raises the proven one.
+pub fn rises(proven: MaybeLen, size: u16) -> bool
+    ensures { λ r. ⌜ r ≡ risesOf 27 proven size ⌝ }
+{
+    let MaybeLen::Some(len) = proven else {
+        return size > PATH_PROBE_MIN_SIZE;
+    };
+    (size > PATH_PROBE_MIN_SIZE) & (size > len)
+}
+
+// The proven size after an acknowledgement at this size.
+pub fn raise(proven: MaybeLen, size: u16) -> MaybeLen
+    ensures { λ r. ⌜ r ≡ raisedOf 27 proven size ⌝ }
+{
+    if rises(proven, size) {
+        return MaybeLen::Some(size);
+    }
+    proven
+}
+
+// Whether the search ends: a lost size is held and lies within the step of the proven one.
+pub fn ended(lost: u16, proven: u16) -> bool
+    ensures { λ r. ⌜ r ≡ closeOf lost proven ⌝ }
+{
+    (lost != 0) & ((lost as u32) <= (proven as u32) + SEEK_STEP)
+}
