@@ -1,15 +1,15 @@
 -- The score of an ETX within 1 and 100 and of any round trip is 1 at least: so it is no NaN, whatever the round trip.
 -- Assumes nothing.
-use mathlib.Core.Path.{_≡_, refl, sym, ap, _∙_, subst}
+use mathlib.Core.Path.{_≡_, refl, sym, subst}
 use mathlib.Core.Logic.{_⊎_, inl, inr}
-use mathlib.Core.Bool.{Bool, true, false, cond, not, _&&_, _||_, false≢true}
+use mathlib.Core.Bool.{Bool, true, false, cond, not, false≢true}
 use Prim.Native.Nat.{ℕ, suc, zero, _+_, _*_, _/_, _%_, _^_, _≤_, _<_}
-use native.Mathlib.Nat.{mul-one, one-mul, mul-pos, zero-lt-suc}
+use native.Mathlib.Nat.{mul-pos, zero-lt-suc}
 use native.Mathlib.Omega.{arith}
-use lib.IntN.{ℤ, pos}
+use lib.IntN.{ℤ}
 use lib.Dec.{T, ltb, eqb, ltb→lt, eqb→eq}
 use lib.Ieee.{Float, nan, inf, fin, Format, binary64, prec, emax, low, up, down, ofBits, odd, units, round, sum, add, mul, div, ofInt, le, isNan}
-use lib.Ieee.Fits.{round-is, up-pos, down-pos}
+use lib.Ieee.Fits.{round-is, down-pos}
 use lib.Ieee.Order.{round-mono}
 use lib.Ieee.Positive.{above, positive, above-of-le, between, mul-mono}
 use lib.Ieee.Bits.{is-true}

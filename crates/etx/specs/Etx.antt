@@ -1,7 +1,7 @@
 -- Document 01, "RTT, ETX, score": "`fold` and `quality_index` run the Rust's float steps in its order, each rounded once; clamp and
 -- maximum are ours. .. ETX stays within 1 and 100." The operations are IEEE 754's on binary64 (`lib.Ieee`).
 use mathlib.Core.Path.{_≡_}
-use mathlib.Core.Bool.{Bool, true, false, cond}
+use mathlib.Core.Bool.{Bool, true, cond}
 use Prim.Native.Nat.{ℕ, _/_, _%_}
 use lib.IntN.{pos}
 use lib.Ieee.{Float, binary64, ofBits, add, sub, mul, div, le, ofInt}

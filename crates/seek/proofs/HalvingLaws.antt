@@ -5,8 +5,7 @@ use mathlib.Core.Path.{_≡_}
 use Prim.Native.Nat.{ℕ, _+_, _-_, _*_, _/_, _<_, _≤_}
 use native.Mathlib.Omega.{arith}
 use borrow.Author.Tests.{lt-ltb, ne-eqb}
-use Rattle.base.specs.declared.types.MaybeLen.{MaybeLen}
-use Rattle.base.specs.declared.types.MaybeLen.the-variants.{None, Some}
+use Rattle.base.specs.declared.types.MaybeLen.the-variants.{Some}
 use Rattle.seek.specs.Rules.{proposalOf}
 
 -- a size that halves the gap between proven and lost

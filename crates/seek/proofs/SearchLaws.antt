@@ -11,7 +11,6 @@ use Rattle.base.specs.declared.types.MaybeLen.the-variants.{None, Some}
 use Rattle.seek.specs.Rules.{risesOf, raisedOf, lowerOf, ackedOf, knownOf}
 use Rattle.seek.specs.Search.{withSeek, endOf, proposeOf, seekProvedOf, lostNow, judgesOf, dropOf, seekJudgeOf}
 use Rattle.base.specs.declared.types.MaybeId.{MaybeId}
-use Rattle.base.specs.declared.types.MaybeTime.{MaybeTime}
 use Rattle.base.specs.declared.types.MaybeTime.the-variants as time
 use Rattle.seek.specs.declared.types.Seek.{Seek}
 use Rattle.seek.specs.declared.types.Sizes.{Sizes}

@@ -1,6 +1,6 @@
 -- The size search on sizes alone, with no clock and no identifiers (document 01, "Size search"). A lost size of 0 is none; the least
 -- provable size, 27, is an argument.
-use mathlib.Core.Bool.{Bool, true, false, not, _&&_}
+use mathlib.Core.Bool.{Bool, not, _&&_}
 use Prim.Native.Nat.{ℕ, _+_, _-_, _/_, min}
 use lib.Dec.{ltb, leb, eqb}
 use Rattle.base.specs.Seq.{pick}

@@ -1,7 +1,7 @@
 -- The size search of a path (document 01, "Size search"): the rules of specs/Rules.antt with the clock and the identifiers.
 use mathlib.Core.Bool.{Bool, true, false, not, _&&_}
 use Prim.Native.Nat.{ℕ, min}
-use lib.Dec.{ltb, leb, eqb}
+use lib.Dec.{leb, eqb}
 use Rattle.base.specs.Seq.{pick}
 use Rattle.base.specs.Serial.{afterOf}
 use Rattle.base.specs.Time.{deadlineOf}

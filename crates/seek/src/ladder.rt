@@ -1,11 +1,8 @@
 // The sizes that a probing path steps down, once a probe above the smallest size has lapsed.
 ghost use mathlib.Core.Path.{_≡_};
-ghost use mathlib.Core.Bool.{_&&_};
-ghost use lib.Dec.{ltb};
 ghost use Rattle.seek.specs.Ladder.{fitsOf, rungOf, sizeOf};
-use crate::types::Ladder;
-use crate::types::PATH_PROBE_MIN_SIZE;
-use base::types::MaybeLen;
+use crate::types::*;
+use base::types::*;
 
 // Whether a size is below the last one and above the smallest.
 fn fits(len: u16, last: u16) -> bool

@@ -1,9 +1,9 @@
 // The search's rules on sizes alone: no clock and no identifiers.
 ghost use mathlib.Core.Path.{_≡_};
+ghost use Prim.Native.Nat.{min};
 ghost use Rattle.seek.specs.Rules.{proposalOf, lowerOf, knownOf, risesOf, raisedOf, closeOf};
-use crate::types::PATH_PROBE_MIN_SIZE;
-use crate::types::SEEK_STEP;
-use base::types::MaybeLen;
+use crate::types::*;
+use base::types::*;
 
 // The next size to try: full with none lost, else halfway between proven and lost; none once they are close, or full is proven.
 pub fn proposal(lost: u16, proven: u16, full: u16) -> MaybeLen
@@ -21,6 +21,13 @@ pub fn proposal(lost: u16, proven: u16, full: u16) -> MaybeLen
     MaybeLen::None
 }
 
+// The smaller of two sizes.
+pub fn smaller(a: u16, b: u16) -> u16
+    ensures { λ r. ⌜ r ≡ min a b ⌝ }
+{
+    if b < a { b } else { a }
+}
+
 // The lost size once `len` is lost too: the smaller.
 pub fn lose(lost: u16, len: u16) -> u16
     ensures { λ r. ⌜ r ≡ lowerOf lost len ⌝ }
@@ -28,7 +35,7 @@ pub fn lose(lost: u16, len: u16) -> u16
     if lost == 0 {
         return len;
     }
-    if len < lost { len } else { lost }
+    smaller(lost, len)
 }
 
 // What counts as proven: the smallest size where nothing is.

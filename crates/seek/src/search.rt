@@ -1,25 +1,11 @@
 // The upward size search of a live path: proposal, sending, acknowledgement and judgement.
 ghost use mathlib.Core.Path.{_≡_};
 ghost use Rattle.seek.specs.Search.{seekSizeOf, seekSendOf, seekNextOf, laterOf, settledOf, endOf, loseOf, seekAnswerOf, seekProvedOf, lostNow, dropOf, seekJudgeOf, proveOf, freshOf};
-use crate::rules::ended;
-use crate::rules::known;
-use crate::rules::lose;
-use crate::rules::proposal;
-use crate::rules::raise;
-use crate::rules::rises;
-use crate::types::Judged;
-use crate::types::PATH_PROBE_MIN_SIZE;
-use crate::types::Proved;
-use crate::types::Proving;
-use crate::types::SEEK_RAISE;
-use crate::types::Seek;
-use crate::types::Settled;
-use crate::types::Sizes;
+use crate::rules::*;
+use crate::types::*;
 use base::serial::after;
 use base::time::deadline;
-use base::types::MaybeId;
-use base::types::MaybeLen;
-use base::types::MaybeTime;
+use base::types::*;
 
 // The length of the next search probe, if one may go now.
 pub fn seek_size(s: Sizes, full: u16, now: u64) -> MaybeLen
@@ -160,7 +146,7 @@ pub fn seek_proved(s: Sizes, sent: u16, acked: u16, now: u64) -> Proved
 {
     let seek = s.seek;
     let old = s.proven;
-    let size = if sent < acked { sent } else { acked };
+    let size = smaller(sent, acked);
     let raised = rises(old, size);
     let proven = raise(old, size);
     if acked < sent {

@@ -1,8 +1,7 @@
 // The state of the size search and of the ladder, and what the search's steps answer.
 ghost use mathlib.Core.Path.{_≡_};
 ghost use Rattle.seek.specs.Search.{newSeek};
-use base::types::MaybeLen;
-use base::types::MaybeTime;
+use base::types::*;
 
 // The smallest size of a probe: what is proven lies above it or is it.
 pub const PATH_PROBE_MIN_SIZE: u16 = 27;

@@ -3,10 +3,9 @@
 -- Assumes nothing.
 use mathlib.Core.Path.{_≡_, refl, sym, ap, _∙_}
 use mathlib.Core.Logic.{_⊎_, inl, inr}
-use mathlib.Core.Bool.{Bool, true, false, not, cond, _||_}
-use Prim.Native.Nat.{ℕ, _+_, _*_, _/_, _%_, _^_}
-use lib.Dec.{leb}
-use lib.Ieee.{Float, nan, inf, fin, Format, binary32, binary64, low, hid, ones, top, ofBits, nanBits, isNan, lt}
+use mathlib.Core.Bool.{Bool, true, false}
+use Prim.Native.Nat.{ℕ, _+_, _*_, _/_, _%_}
+use lib.Ieee.{Float, nan, inf, fin, Format, binary32, binary64, hid, ones, top, ofBits, nanBits}
 use lib.Ieee.Exact.{HasValue}
 use lib.Ieee.Bits.{nanBits-is}
 use Rattle.total.specs.Total.{sign, totalAt}

@@ -6,10 +6,6 @@ use Rattle.etx.specs.Etx.{foldOf, sampleOf}
 use borrow.Author.Needs.{needs}
 use Rattle.etx.proofs.fold.Statement.{statement}
 use Rattle.etx.proofs.fold.Tie as tie
-use Rattle.etx.proofs.fold.Reads as reads
-use Rattle.etx.proofs.fold.Lts as lts
-use Rattle.total.proofs.clamp.Reads as clamp-reads
-use Rattle.total.proofs.max.Reads as max-reads
 
 clamp-requires : tie.Need-clamp-requires
 clamp-requires c κs = search needs

@@ -1,8 +1,6 @@
 -- `total::total` meets its contract: past the tests for a NaN and for less the two are equal, and 1 / x shows the sign of a zero.
 -- Assumes nothing.
-use mathlib.Core.Path.{_≡_, sym, _∙_}
-use mathlib.Core.Bool.{true}
-use lib.Ieee.{eq}
+use mathlib.Core.Path.{sym, _∙_}
 use Rattle.total.specs.Values.{totalOf}
 use Rattle.total.proofs.ValueLaws.{is-nan, no-nan, equal, zeros, others}
 use Rattle.total.proofs.total.Statement.{statement}

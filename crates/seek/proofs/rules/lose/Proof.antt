@@ -1,18 +1,18 @@
 -- `seek::rules::lose` meets its contract: of two sizes the smaller.
 -- Assumes nothing.
-use native.Mathlib.Omega.{arith}
 use borrow.Author.Tests.{eq-eqb, ne-eqb}
+use borrow.Author.Needs.{needs}
 use Rattle.seek.proofs.rules.lose.Statement.{statement}
 use Rattle.seek.proofs.rules.lose.Tie as tie
 
 returns : tie.Need-returns
 returns c = simp (eq-eqb _ _ (c .if1 .taken))
 
-returns-2 : tie.Need-returns-2
-returns-2 c = simp (ne-eqb _ _ (c .before .if1 .left)) (omega arith)
+smaller-requires : tie.Need-smaller-requires
+smaller-requires c κs = search needs
 
-returns-3 : tie.Need-returns-3
-returns-3 c = simp (ne-eqb _ _ (c .before .if1 .left)) (omega arith)
+returns-2 : tie.Need-returns-2
+returns-2 c = simp (ne-eqb _ _ (c .before .if1 .left), c .smaller .ensures)
 
 pub lose-spec : {M : Type 1} → statement M
-lose-spec = tie.close (tie.spec returns returns-2 returns-3)
+lose-spec = tie.close (tie.spec returns smaller-requires returns-2)

@@ -24,7 +24,8 @@ is-lost-requires c κs = search needs
 returns-2 : tie.Need-returns-2
 returns-2 c =
     let a = c .before .before .before .before .before .before .before .args in
-    judge-waits (a .s) (a .answered) (a .now) (a .timeout) (a .gap) (c .before .before .before .before .next .given .1) (c .before .is-lost .ensures) (c .if1 .taken)
+    judge-waits (a .s) (a .answered) (a .now) (a .timeout) (a .gap)
+    (c .before .before .before .before .next .given .1) (c .before .is-lost .ensures) (c .if1 .taken)
 
 enum-known-proven : tie.Need-enum-known-proven
 enum-known-proven c = search needs
@@ -37,16 +38,24 @@ drop-out-requires c κs = search needs
 
 returns-3 : tie.Need-returns-3
 returns-3 c =
-    let a = c .before .before .before .before .before .before .before .before .before .before .args in
-    judge-drops (a .s) (a .answered) (a .now) (a .timeout) (a .gap) (c .before .before .before .before .before .before .before .next .given .1) (c .before .before .before .before .is-lost .ensures) (c .before .before .before .if1 .left) (ap (knownOf 27) (c .before .enum-told2 .given .1)) (c .drop-out .ensures)
+    let b = c .before .before .before in
+    let d = b .before .before .before .before in
+    let a = d .before .before .before .args in
+    judge-drops (a .s) (a .answered) (a .now) (a .timeout) (a .gap)
+    (d .next .given .1) (b .before .is-lost .ensures) (b .if1 .left)
+    (ap (knownOf 27) (c .before .enum-told2 .given .1)) (c .drop-out .ensures)
 
 drop-out-requires-2 : tie.Need-drop-out-requires-2
 drop-out-requires-2 c κs = search needs
 
 returns-4 : tie.Need-returns-4
 returns-4 c =
-    let a = c .before .before .before .before .before .before .before .before .before .before .before .args in
-    judge-drops (a .s) (a .answered) (a .now) (a .timeout) (a .gap) (c .before .before .before .before .before .before .before .before .next .given .1) (c .before .before .before .before .before .is-lost .ensures) (c .before .before .before .before .if1 .left) (ap (knownOf 27) (c .before .before .proven .given .1)) (c .drop-out2 .ensures)
+    let b = c .before .before .before .before in
+    let d = b .before .before .before .before in
+    let a = d .before .before .before .args in
+    judge-drops (a .s) (a .answered) (a .now) (a .timeout) (a .gap)
+    (d .next .given .1) (b .before .is-lost .ensures) (b .if1 .left)
+    (ap (knownOf 27) (c .before .before .proven .given .1)) (c .drop-out2 .ensures)
 
 pub seek-judge-spec : {M : Type 1} → statement M
 seek-judge-spec =

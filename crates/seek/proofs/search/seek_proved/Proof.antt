@@ -1,13 +1,12 @@
 -- `seek::search::seek_proved` meets its contract: the size is the smaller, and the calls' outcomes are put into each other.
 -- Assumes nothing.
-use native.Mathlib.Omega.{arith}
-use mathlib.Core.Path.{_≡_}
-use mathlib.Core.Logic.{⊎-elim}
-use Prim.Native.Nat.{min}
 use Rattle.seek.proofs.SearchLaws.{acked-short, acked-whole, proved-made}
 use borrow.Author.Needs.{needs}
 use Rattle.seek.proofs.search.seek_proved.Statement.{statement}
 use Rattle.seek.proofs.search.seek_proved.Tie as tie
+
+smaller-requires : tie.Need-smaller-requires
+smaller-requires c κs = search needs
 
 rises-requires : tie.Need-rises-requires
 rises-requires c κs = search needs
@@ -23,10 +22,12 @@ lose-size-requires c κs = search needs
 
 returns : tie.Need-returns
 returns c =
-    let d = c .before .before .before .before .before in
+    let b = c .before .before in
+    let d = b .before .before .before in
     let a = d .before .before .args in
-    let least : d .if1 .size ≡ min (a .sent) (a .acked) = ⊎-elim (λ w. omega (arith, w .0 .taken, w .1)) (λ w. omega (arith, w .0 .left, w .1)) (d .if1 .came) in
-    proved-made (a .s) (a .sent) (a .acked) (a .now) least (c .before .before .before .before .rises .ensures) (c .before .before .before .raise .ensures) (c .before .known .ensures) (acked-short (a .s .seek .lost) (a .sent) (a .acked) (c .before .before .if2 .taken)) (c .lose-size .ensures)
+    proved-made (a .s) (a .sent) (a .acked) (a .now)
+    (d .smaller .ensures) (b .before .before .rises .ensures) (b .before .raise .ensures) (c .before .known .ensures)
+    (acked-short (a .s .seek .lost) (a .sent) (a .acked) (b .if1 .taken)) (c .lose-size .ensures)
 
 known-requires-2 : tie.Need-known-requires-2
 known-requires-2 c κs = search needs
@@ -36,15 +37,18 @@ end-requires c κs = search needs
 
 returns-2 : tie.Need-returns-2
 returns-2 c =
-    let d = c .before .before .before .before .before in
+    let b = c .before .before in
+    let d = b .before .before .before in
     let a = d .before .before .args in
-    let least : d .if1 .size ≡ min (a .sent) (a .acked) = ⊎-elim (λ w. omega (arith, w .0 .taken, w .1)) (λ w. omega (arith, w .0 .left, w .1)) (d .if1 .came) in
-    proved-made (a .s) (a .sent) (a .acked) (a .now) least (c .before .before .before .before .rises .ensures) (c .before .before .before .raise .ensures) (c .before .known2 .ensures) (acked-whole (a .s .seek .lost) (a .sent) (a .acked) (c .before .before .if2 .left)) (c .end .ensures)
+    proved-made (a .s) (a .sent) (a .acked) (a .now)
+    (d .smaller .ensures) (b .before .before .rises .ensures) (b .before .raise .ensures) (c .before .known2 .ensures)
+    (acked-whole (a .s .seek .lost) (a .sent) (a .acked) (b .if1 .left)) (c .end .ensures)
 
 pub seek-proved-spec : {M : Type 1} → statement M
 seek-proved-spec =
     tie.close
     (tie.spec
+    smaller-requires
     rises-requires
     raise-requires
     known-requires
