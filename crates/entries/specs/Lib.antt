@@ -1,0 +1,2 @@
+-- What the C functions reply.
+pub mod Entries
