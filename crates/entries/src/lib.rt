@@ -33,9 +33,15 @@ pub extern "C" fn hess_deadline(t: u64, d: u64) -> Reply
     ensures { λ r. ⌜ r ≡ deadlineReply t d ⌝ }
 {
     if 0x4000_0000_0000_0000 <= d {
-        return Reply { number: 6, value: 0 };
+        return Reply {
+            number: 6,
+            value: 0,
+        };
     }
-    Reply { number: 0, value: base::time::deadline(t, d) }
+    Reply {
+        number: 0,
+        value: base::time::deadline(t, d),
+    }
 }
 
 // The time from `from` to `now`, 0 where the clock went back.
@@ -108,10 +114,16 @@ fn ladder(fallen: bool, held: bool, last: u16) -> Ladder
 {
     if held {
         let some = MaybeLen::Some(last);
-        return Ladder { last: some, fallen: fallen };
+        return Ladder {
+            last: some,
+            fallen: fallen,
+        };
     }
     let none = MaybeLen::None;
-    Ladder { last: none, fallen: fallen }
+    Ladder {
+        last: none,
+        fallen: fallen,
+    }
 }
 
 // The size of the next probe of a path whose last size is `last`, if held; 5 for sizes outside the limits.
@@ -120,39 +132,71 @@ pub extern "C" fn hess_size(full: u32, fallen: bool, held: bool, last: u32) -> R
     ensures { λ r. ⌜ r ≡ sizeReply full fallen held last ⌝ }
 {
     if 65535 < full {
-        return Reply { number: 5, value: 0 };
+        return Reply {
+            number: 5,
+            value: 0,
+        };
     }
     if full < 27 {
-        return Reply { number: 5, value: 0 };
+        return Reply {
+            number: 5,
+            value: 0,
+        };
     }
     if 65535 < last {
-        return Reply { number: 5, value: 0 };
+        return Reply {
+            number: 5,
+            value: 0,
+        };
     }
     let l = ladder(fallen, held, last as u16);
-    Reply { number: 0, value: seek::ladder::size(l, full as u16) as u64 }
+    Reply {
+        number: 0,
+        value: seek::ladder::size(l, full as u16) as u64,
+    }
 }
 
 // A number that may be missing.
 fn maybe(held: bool, x: u64) -> MaybeTime
     ensures { λ r. ⌜ r ≡ maybeOf held x ⌝ }
 {
-    if held { MaybeTime::Some(x) } else { MaybeTime::None }
+    if held {
+        MaybeTime::Some(x)
+    } else {
+        MaybeTime::None
+    }
 }
 
 // The probe timeout by the last and the largest round trip; 6 for a floor or cap of 2^62 or more.
 #[no_mangle]
-pub extern "C" fn hess_timeout(floor: u64, cap: u64, timed: bool, last: u64, sampled: bool, largest: u64) -> Reply
+pub extern "C" fn hess_timeout(
+    floor: u64,
+    cap: u64,
+    timed: bool,
+    last: u64,
+    sampled: bool,
+    largest: u64,
+) -> Reply
     ensures { λ r. ⌜ r ≡ timeoutReply floor cap (maybeOf timed last) (maybeOf sampled largest) ⌝ }
 {
     if 0x4000_0000_0000_0000 <= floor {
-        return Reply { number: 6, value: 0 };
+        return Reply {
+            number: 6,
+            value: 0,
+        };
     }
     if 0x4000_0000_0000_0000 <= cap {
-        return Reply { number: 6, value: 0 };
+        return Reply {
+            number: 6,
+            value: 0,
+        };
     }
     let l = maybe(timed, last);
     let m = maybe(sampled, largest);
-    Reply { number: 0, value: rtt::times::timeout(l, m, floor, cap) }
+    Reply {
+        number: 0,
+        value: rtt::times::timeout(l, m, floor, cap),
+    }
 }
 
 // Carries out a script of calls on a new path, and writes its answers and the path's image into the lent bytes.

@@ -7,10 +7,12 @@ use mathlib.Core.Bool.{Bool, true, false}
 use native.Mathlib.Omega.{arith}
 use borrow.Author.Tests.{lt-ltb, le-ltb, eq-eqb, ne-eqb}
 use borrow.Rule.Slice.PartMut.{midOf, putMid}
-use lib.ListN.{length, take, drop, length-append, drop-of-length-le}
-use lib.Seq.{drop-drop, drop-nil}
-use Rattle.octets.specs.Octets.{le, wordsOf, over}
-use Rattle.octets.proofs.Fill.{Filled, fill, filled-over, filled-length, flat-length, flat-append, le-length, over-not, nothing}
+use lib.ListN.{length, take, drop, length-append, length-drop}
+use lib.Seq.{drop-drop, take-all}
+use native.Mathlib.Nat.{le-of-eq}
+use Rattle.base.proofs.Cases.{on-order}
+use Rattle.octets.specs.Octets.{le, flat, wordsOf, over}
+use Rattle.octets.proofs.Fill.{Filled, fill, filled-over, filled-length, flat-length, flat-append, le-length, over-fits, over-not, nothing}
 use Rattle.image.specs.Image.{imageOf}
 use Rattle.live.specs.New.{newLiveness}
 use Rattle.live.specs.declared.types.Liveness.{Liveness}
@@ -47,6 +49,20 @@ running-room {s} {l₀} {l} {p} {at} r h = omega (arith, r .long, r .room, fille
 pub running-end : {s l₀ l : List ℕ} {p : Liveness} {at : ℕ} → Running s l₀ l p at → length s ≤ at → at + 1800 ≤ length l
 running-end {s} {l₀} {l} {p} {at} r h = omega (arith, r .long, r .room, filled-length (r .filled))
 
+pub running-fits : {s l₀ l : List ℕ} {p : Liveness} {at : ℕ} → Running s l₀ l p at → at < length s → at + 48 ≤ length s
+running-fits {s} {l₀} {l} {p} {at} r h = omega (arith, r .long)
+
+-- the tail of a script, as a part of it is lent
+pub tail-from : (s : List ℕ) (at : ℕ) → midOf at (length s - at) s ≡ drop at s
+tail-from s at = take-all (length s - at) (drop at s) (le-of-eq (length-drop at s))
+
+-- lent bytes stay as many
+pub over-length : (b l : List ℕ) → length (over b l) ≡ length l
+over-length b l =
+    on-order (length l) (length b)
+    (λ h. ap length (over-not b l h))
+    (λ h. ap length (over-fits b l h) ∙ length-append b (drop (length b) l) ∙ omega (arith, length-drop (length b) l))
+
 -- a call is carried out, and its six numbers are written
 module _ {s l₀ l : List ℕ} {p : Liveness} {at : ℕ} (r : Running s l₀ l p at) (h : at < length s) where
   step : (n : ℕ) → r .left ≡ suc n → {c : Call} {d : Called} {m : List ℕ} → c ≡ callFrom (drop at s) → d ≡ callOf p c → length (d .words) ≡ 6
@@ -54,7 +70,7 @@ module _ {s l₀ l : List ℕ} {p : Liveness} {at : ℕ} (r : Running s l₀ l p
   step n e {c} {d} {m} a b w f =
       let t : length (wordsOf (d .words)) ≡ 48 = flat-length (le 8) 8 (le-length 8) (d .words) ∙ omega (arith, w) in
       let g : Filled l₀ (r .front ++ wordsOf (d .words)) (putMid at (length l - at) l m) (at + length (wordsOf (d .words))) =
-          fill (wordsOf (d .words)) (r .filled) (omega (arith, t, r .long, r .room)) f in
+      fill (wordsOf (d .words)) (r .filled) (omega (arith, t, r .long, r .room)) f in
       let q : callOf p (callFrom (drop at s)) ≡ d = ap (callOf p) (sym a) ∙ sym b in
       let x : front-words (r .left) ≡ wordsOf (answersOf newLiveness (callsOf (length s / 48) s)) = r .answers in
       let y : runOf p (callsOf (r .left) (drop at s)) ≡ runOf newLiveness (callsOf (length s / 48) s) = r .final in
@@ -70,6 +86,7 @@ module _ {s l₀ l : List ℕ} {p : Liveness} {at : ℕ} (r : Running s l₀ l p
     where
       front-words : ℕ → List ℕ
       front-words k = r .front ++ wordsOf (answersOf p (callsOf k (drop at s)))
+
       more : (n : ℕ) (d : Called) → callOf p (callFrom (drop at s)) ≡ d
           → r .front ++ wordsOf (answersOf p (callsOf (suc n) (drop at s))) ≡ wordsOf (answersOf newLiveness (callsOf (length s / 48) s))
           → (r .front ++ wordsOf (d .words)) ++ wordsOf (answersOf (d .path) (callsOf n (drop (at + 48) s))) ≡ wordsOf (answersOf newLiveness (callsOf (length s / 48) s))
@@ -79,6 +96,7 @@ module _ {s l₀ l : List ℕ} {p : Liveness} {at : ℕ} (r : Running s l₀ l p
           ∙ ap (λ (z : List ℕ). r .front ++ wordsOf (d .words ++ answersOf (d .path) (callsOf n z))) (sym (drop-drop 48 at s))
           ∙ ap (λ (z : Called). r .front ++ wordsOf (z .words ++ answersOf (z .path) (callsOf n (drop 48 (drop at s))))) (sym q)
           ∙ x
+
       after : (n : ℕ) (d : Called) → callOf p (callFrom (drop at s)) ≡ d
           → runOf p (callsOf (suc n) (drop at s)) ≡ runOf newLiveness (callsOf (length s / 48) s)
           → runOf (d .path) (callsOf n (drop (at + 48) s)) ≡ runOf newLiveness (callsOf (length s / 48) s)
@@ -94,6 +112,7 @@ module _ {s l₀ l : List ℕ} {p : Liveness} {at : ℕ} (r : Running s l₀ l p
 -- the image behind the answers
 pub running-done : {s l₀ l m : List ℕ} {p : Liveness} {at : ℕ} → Running s l₀ l p at → length s ≤ at → length (imageOf p) ≡ 1800
     → m ≡ over (imageOf p) (midOf at (length l - at) l) → putMid at (length l - at) l m ≡ over (bytesOf (callsOf (length s / 48) s)) l₀
+unfolding flat
 running-done {s} {l₀} {l} {m} {p} {at} r h w f = go (r .left) (omega (arith, r .long)) (r .answers) (r .final)
   where
     go : (n : ℕ) → n ≡ 0 → r .front ++ wordsOf (answersOf p (callsOf n (drop at s))) ≡ wordsOf (answersOf newLiveness (callsOf (length s / 48) s))
@@ -101,7 +120,7 @@ running-done {s} {l₀} {l} {m} {p} {at} r h w f = go (r .left) (omega (arith, r
         → putMid at (length l - at) l m ≡ over (bytesOf (callsOf (length s / 48) s)) l₀
     go zero e x y =
         let g : Filled l₀ (r .front ++ imageOf p) (putMid at (length l - at) l m) (at + length (imageOf p)) =
-            fill (imageOf p) (r .filled) (omega (arith, w, r .long, r .room)) f in
+        fill (imageOf p) (r .filled) (omega (arith, w, r .long, r .room)) f in
         let a : r .front ≡ wordsOf (answersOf newLiveness (callsOf (length s / 48) s)) = sym (append-nil (r .front)) ∙ x in
         filled-over g ∙ ap (λ (z : List ℕ). over (z ++ imageOf p) l₀) a
         ∙ ap (λ (z : Liveness). over (wordsOf (answersOf newLiveness (callsOf (length s / 48) s)) ++ imageOf z) l₀) y

@@ -186,7 +186,10 @@ pub fn of_settling(s: Settling) -> Called
 pub fn no_kind(path: Liveness) -> Called
     ensures { λ r. ⌜ r ≡ kindless path ⌝ }
 {
-    Called { path: path, words: [15, 0, 0, 0, 0, 0] }
+    Called {
+        path: path,
+        words: [15, 0, 0, 0, 0, 0],
+    }
 }
 
 // A duration as an answer.

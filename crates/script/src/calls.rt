@@ -26,7 +26,13 @@ fn odd(x: u64) -> bool
 fn sent(c: Call) -> Sent
     ensures { λ r. ⌜ r ≡ sentOf c ⌝ }
 {
-    Sent { at: c.b, due: c.c, probe_id: low(c.a), len: (c.d % 65536) as u16, used: true }
+    Sent {
+        at: c.b,
+        due: c.c,
+        probe_id: low(c.a),
+        len: (c.d % 65536) as u16,
+        used: true,
+    }
 }
 
 // Calls 0 to 4: identifiers and probes.
