@@ -1,0 +1,132 @@
+use borrow.Author.Needs.{needs}
+use mathlib.Core.Path.{refl}
+use Rattle.image.specs.Image.{marksWords}
+use Rattle.image.proofs.Lengths.{marks-length, stop-length}
+use Rattle.image.proofs.PartLaws.{refused, none-yet, part, written}
+use Rattle.image.proofs.parts.write_marks.Statement.{statement}
+use Rattle.image.proofs.parts.write_marks.Tie as tie
+use Rattle.image.proofs.parts.write_marks.Reads as reads
+use Rattle.image.proofs.parts.write_marks.Lts as lts
+use Rattle.image.proofs.words.ids_words.Reads as ids-words-reads
+use Rattle.image.proofs.words.stop_words.Reads as stop-words-reads
+use Rattle.image.proofs.words.time_words.Reads as time-words-reads
+use Rattle.octets.proofs.put_words.Reads as put-words-reads
+
+-- src/parts.rt:113:9
+returns : tie.Need-returns
+returns c = let a = c .before .before .args in refused _ (marks-length (a .ids) (a .silence)) (c .if1 .taken)
+
+-- src/parts.rt:117:13
+ids-words-requires : tie.Need-ids-words-requires
+ids-words-requires c κs = search needs
+
+-- src/parts.rt:118:13
+time-words-requires : tie.Need-time-words-requires
+time-words-requires c κs = search needs
+
+-- src/parts.rt:119:13
+stop-words-requires : tie.Need-stop-words-requires
+stop-words-requires c κs = search needs
+
+-- src/parts.rt:120:15
+sub-put-words : tie.Need-sub-put-words
+sub-put-words c = search needs
+
+-- src/parts.rt:120:15
+part-put-words-start : tie.Need-part-put-words-start
+part-put-words-start c = search needs
+
+-- src/parts.rt:120:15
+part-put-words-end : tie.Need-part-put-words-end
+part-put-words-end c = search needs
+
+-- src/parts.rt:120:30
+slice-aggregate-put-words : tie.Need-slice-aggregate-put-words
+slice-aggregate-put-words c = search needs
+
+-- src/parts.rt:120:5
+put-words-requires : tie.Need-put-words-requires
+put-words-requires c κs = search needs
+
+-- src/parts.rt:121:15
+sub-put-words-2 : tie.Need-sub-put-words-2
+sub-put-words-2 c = search needs
+
+-- src/parts.rt:121:15
+part-put-words-start-2 : tie.Need-part-put-words-start-2
+part-put-words-start-2 c = search needs
+
+-- src/parts.rt:121:15
+part-put-words-end-2 : tie.Need-part-put-words-end-2
+part-put-words-end-2 c = search needs
+
+-- src/parts.rt:121:31
+slice-aggregate-put-words-2 : tie.Need-slice-aggregate-put-words-2
+slice-aggregate-put-words-2 c = search needs
+
+-- src/parts.rt:121:5
+put-words-requires-2 : tie.Need-put-words-requires-2
+put-words-requires-2 c κs = search needs
+
+-- src/parts.rt:122:15
+sub-put-words-3 : tie.Need-sub-put-words-3
+sub-put-words-3 c = search needs
+
+-- src/parts.rt:122:15
+part-put-words-start-3 : tie.Need-part-put-words-start-3
+part-put-words-start-3 c = search needs
+
+-- src/parts.rt:122:15
+part-put-words-end-3 : tie.Need-part-put-words-end-3
+part-put-words-end-3 c = search needs
+
+-- src/parts.rt:122:31
+slice-aggregate-put-words-3 : tie.Need-slice-aggregate-put-words-3
+slice-aggregate-put-words-3 c = search needs
+
+-- src/parts.rt:122:5
+put-words-requires-3 : tie.Need-put-words-requires-3
+put-words-requires-3 c κs = search needs
+
+-- src/parts.rt:109:1
+same-length : tie.Need-same-length
+same-length c = search needs
+
+-- src/parts.rt:109:1
+returns-2 : tie.Need-returns-2
+unfolding marksWords
+returns-2 c =
+    let d = c .before .before .before .before .before .before .before in
+    let e = d .before .before .before .before .before in
+    let g = e .before .before .before in
+    let h = g .before .before .before .if1 .left in
+    let x = g .before .before .before .before .before .args .silence .stop in
+    let f₁ = part _ _ h (none-yet _) (g .before .before .ids-words .ensures) refl tt (e .put-words .ensures .1) in
+    let f₂ = part _ _ h f₁ (g .before .time-words .ensures) refl tt (d .put-words2 .ensures .1) in
+    written _ (part _ _ h f₂ (g .stop-words .ensures) (stop-length x) tt (c .before .before .put-words3 .ensures .1))
+
+pub write-marks-spec : {M : Type 1} → statement M
+write-marks-spec =
+    tie.close
+    (tie.spec
+    returns
+    ids-words-requires
+    time-words-requires
+    stop-words-requires
+    sub-put-words
+    part-put-words-start
+    part-put-words-end
+    slice-aggregate-put-words
+    put-words-requires
+    sub-put-words-2
+    part-put-words-start-2
+    part-put-words-end-2
+    slice-aggregate-put-words-2
+    put-words-requires-2
+    sub-put-words-3
+    part-put-words-start-3
+    part-put-words-end-3
+    slice-aggregate-put-words-3
+    put-words-requires-3
+    same-length
+    returns-2)

@@ -1,0 +1,2 @@
+-- The image of a path.
+pub mod Image
