@@ -1,0 +1,2 @@
+-- The computation of the figures.
+mod Computed

@@ -1,0 +1,3 @@
+-- The twelve marked figures (document 01, "Twelve marked figures").
+pub mod Paths
+pub mod Figures
