@@ -1,6 +1,6 @@
 // Instants and durations are counts of nanoseconds.
 ghost use mathlib.Core.Path.{_≡_};
-ghost use Prim.Native.Nat.{min};
+ghost use Prim.Native.Nat.{min, max};
 ghost use Rattle.base.specs.Least.{lowerOf};
 ghost use Rattle.base.specs.Time.{deadlineOf, elapsedOf};
 use crate::types::MaybeTime;
@@ -29,6 +29,13 @@ pub fn smaller(a: u64, b: u64) -> u64
     ensures { λ r. ⌜ r ≡ min a b ⌝ }
 {
     if a < b { a } else { b }
+}
+
+// The larger of two instants or durations.
+pub fn larger(a: u64, b: u64) -> u64
+    ensures { λ r. ⌜ r ≡ max a b ⌝ }
+{
+    if a < b { b } else { a }
 }
 
 // The least so far, with one more.

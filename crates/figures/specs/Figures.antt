@@ -1,9 +1,8 @@
 -- The twelve marked figures (document 01, "Twelve marked figures"): what the definitions of the parts compute, and what the document
 -- expects.
 use Prim.Native.Nat.{ℕ, _-_, _^_}
-use mathlib.Core.Bool.{Bool}
 use mathlib.Core.List.{List, [], _∷_}
-use Rattle.base.specs.Seq.{pick}
+use Rattle.base.specs.Seq.{flagOf}
 use Rattle.base.specs.Serial.{afterOf}
 use Rattle.base.specs.Time.{deadlineOf}
 use Rattle.stop.specs.Silence.{seconds}
@@ -13,19 +12,15 @@ use Rattle.live.specs.Search.{seekSizeOf}
 use Rattle.live.specs.Times.{timeoutOf, spentOf}
 use Rattle.figures.specs.Paths.{millis, lapsed, nextSize, nextSizes, proven, fullLost, restOf, probes, sampled, spanCount, halted, gapOf}
 
--- 1 for true, 0 for false
-abbrev pub bit : Bool → ℕ
-bit b = pick b 1 0
-
 -- the numbers of each figure, computed
 unfoldable pub figures : List (List ℕ)
 figures =
     -- (1) after(0, 2^32 - 1) true
-    (bit (afterOf 32 0 (2 ^ 32 - 1)) ∷ []) ∷
+    (flagOf (afterOf 32 0 (2 ^ 32 - 1)) ∷ []) ∷
     -- (2) after(2^31, 0) false
-    (bit (afterOf 32 (2 ^ 31) 0) ∷ []) ∷
+    (flagOf (afterOf 32 (2 ^ 31) 0) ∷ []) ∷
     -- (3) reversed too
-    (bit (afterOf 32 0 (2 ^ 31)) ∷ []) ∷
+    (flagOf (afterOf 32 0 (2 ^ 31)) ∷ []) ∷
     -- (4) deadline(2^64 - 11, 25) = 2^64 - 5
     (deadlineOf 64 (2 ^ 64 - 11) 25 ∷ []) ∷
     -- (5) full 1,200: 1,200, 900, 600, 27, 1,200

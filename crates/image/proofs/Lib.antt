@@ -1,5 +1,4 @@
 -- Laws of the writers of words, over any part and place.
 pub mod PartLaws
-pub mod FloatLaws
 pub mod StopLaw
 pub mod Lengths

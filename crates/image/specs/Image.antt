@@ -6,7 +6,7 @@ use mathlib.Core.Bool.{Bool}
 use Prim.Native.Nat.{ℕ}
 use lib.Ieee.{Float, binary64, isNan, toBits}
 use lib.ListN.{replicate}
-use Rattle.base.specs.Seq.{pick}
+use Rattle.base.specs.Seq.{pick, flagOf}
 use Rattle.base.specs.declared.types.MaybeId.{MaybeId}
 use Rattle.base.specs.declared.types.MaybeId.the-variants as id
 use Rattle.base.specs.declared.types.MaybeTime.{MaybeTime}
@@ -26,10 +26,6 @@ use Rattle.stop.specs.declared.types.Silence.{Silence}
 use Rattle.live.specs.declared.types.Traffic.{Traffic}
 use Rattle.live.specs.declared.types.Liveness.{Liveness}
 use Rattle.octets.specs.Octets.{flat, wordsOf}
-
--- a flag is 1 or 0
-abbrev pub flagOf : Bool → ℕ
-flagOf on = pick on 1 0
 
 -- an identifier that may be missing
 abbrev pub idTag : MaybeId → ℕ

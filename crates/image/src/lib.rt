@@ -1,4 +1,4 @@
-// The image of a path: everything that it keeps as 225 numbers, eight little-endian bytes each. Two paths with one image are one path.
+// The image of a path: everything that it keeps as 225 numbers, eight little-endian bytes each.
 pub mod parts;
 pub mod words;
 

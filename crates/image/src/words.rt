@@ -1,19 +1,12 @@
 // The numbers of each part of a path, in the order of the image.
 ghost use mathlib.Core.Path.{_≡_};
-ghost use Rattle.image.specs.Image.{flagOf, idTag, idValue, timeTag, timeValue, lenTag, lenValue, sentWords, idsWords, timeWords, stopWords, sizeWords, trafficWords, sampleWords, spanWords, etxBits};
+ghost use Rattle.image.specs.Image.{idTag, idValue, timeTag, timeValue, lenTag, lenValue, sentWords, idsWords, timeWords, stopWords, sizeWords, trafficWords, sampleWords, spanWords, etxBits};
 use base::types::*;
 use live::types::*;
 use ring::types::*;
 use rtt::types::*;
 use seek::types::*;
 use stop::types::*;
-
-// A flag as a number.
-fn flag(on: bool) -> u64
-    ensures { λ r. ⌜ r ≡ flagOf on ⌝ }
-{
-    if on { 1 } else { 0 }
-}
 
 // Whether there is an identifier.
 fn id_tag(x: MaybeId) -> u64
@@ -79,7 +72,13 @@ fn len_value(x: MaybeLen) -> u64
 pub fn sent_words(s: Sent) -> [u64; 5]
     ensures { λ r. ⌜ r ≡ sentWords s ⌝ }
 {
-    [flag(s.used), s.probe_id as u64, s.at, s.due, s.len as u64]
+    [
+        base::flag::flag(s.used),
+        s.probe_id as u64,
+        s.at,
+        s.due,
+        s.len as u64,
+    ]
 }
 
 // The identifiers.
@@ -124,7 +123,7 @@ pub fn stop_words(x: MaybeStop) -> [u64; 7]
                 s.used,
                 time_tag(until),
                 time_value(until),
-                flag(s.owed),
+                base::flag::flag(s.owed),
             ]
         }
     }
@@ -142,7 +141,7 @@ pub fn size_words(misses: u32, ladder: Ladder, sizes: Sizes) -> [u64; 11]
         misses as u64,
         len_tag(last),
         len_value(last),
-        flag(ladder.fallen),
+        base::flag::flag(ladder.fallen),
         len_tag(proven),
         len_value(proven),
         time_tag(at),
@@ -173,14 +172,14 @@ pub fn traffic_words(t: Traffic) -> [u64; 6]
 pub fn sample_words(s: Sample) -> [u64; 3]
     ensures { λ r. ⌜ r ≡ sampleWords s ⌝ }
 {
-    [flag(s.used), s.at, s.rtt]
+    [base::flag::flag(s.used), s.at, s.rtt]
 }
 
 // One span.
 pub fn span_words(s: Span) -> [u64; 4]
     ensures { λ r. ⌜ r ≡ spanWords s ⌝ }
 {
-    [flag(s.used), s.from, s.to, s.rtt]
+    [base::flag::flag(s.used), s.from, s.to, s.rtt]
 }
 
 // The pattern of the ETX: every NaN is the quiet one with no payload.

@@ -184,7 +184,7 @@ impl Liveness {
         at
     }
 
-    // The send instant of the earliest probe of the ring: the silence clock.
+    // The send instant of the first probe that went to the ring: the silence clock.
     pub fn quiet(self) -> MaybeTime
         ensures { λ r. ⌜ r ≡ self .silence .quiet ⌝ }
     {

@@ -156,7 +156,7 @@ impl Liveness {
         let left = scanned.ring;
         let slot = scanned.slot;
         let mut out = self;
-        if 8 <= slot {
+        if slot >= 8 {
             out.ring = left;
             let none = Expired::None;
             return Expiring {

@@ -1,15 +1,7 @@
-// Round trips: the larger, and the timeout.
+// Round trips: the largest, and the timeout.
 ghost use mathlib.Core.Path.{_≡_};
-ghost use Prim.Native.Nat.{max};
 ghost use Rattle.rtt.specs.Times.{higherOf, thriceOf, timeoutOf};
 use base::types::MaybeTime;
-
-// The larger of two durations.
-fn larger(a: u64, b: u64) -> u64
-    ensures { λ r. ⌜ r ≡ max a b ⌝ }
-{
-    if a < b { b } else { a }
-}
 
 // The largest so far, with one more.
 pub fn higher(largest: MaybeTime, rtt: u64) -> MaybeTime
@@ -17,7 +9,7 @@ pub fn higher(largest: MaybeTime, rtt: u64) -> MaybeTime
 {
     match largest {
         MaybeTime::None => MaybeTime::Some(rtt),
-        MaybeTime::Some(t) => MaybeTime::Some(larger(t, rtt)),
+        MaybeTime::Some(t) => MaybeTime::Some(base::time::larger(t, rtt)),
     }
 }
 
@@ -40,8 +32,8 @@ fn thrice(rtt: MaybeTime) -> u64
 pub fn timeout(last: MaybeTime, largest: MaybeTime, floor: u64, cap: u64) -> u64
     ensures { λ r. ⌜ r ≡ timeoutOf last largest floor cap ⌝ }
 {
-    larger(
-        larger(floor, thrice(last)),
+    base::time::larger(
+        base::time::larger(floor, thrice(last)),
         base::time::smaller(thrice(largest), cap),
     )
 }

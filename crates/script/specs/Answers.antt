@@ -1,8 +1,6 @@
 -- Answers as six numbers: the refusal number, 0 if accepted, then the values, 0 where there are fewer than five.
 use Prim.Native.Nat.{ℕ}
 use mathlib.Core.List.{List, [], _∷_}
-use mathlib.Core.Bool.{Bool}
-use Rattle.base.specs.Seq.{pick}
 use Rattle.base.specs.declared.types.MaybeTime.{MaybeTime}
 use Rattle.base.specs.declared.types.MaybeTime.the-variants.{None, Some}
 use Rattle.live.specs.Answers.{idNumber, idValue, answerNumber, answerValue, answerProbe, expiredNumber, expiredValue, doneNumber, lenNumber, lenValue, timeNumber, timeValue, proveNumber, proveValue, raiseNumber, raiseValue, judgeNumber, judgeValue}
@@ -18,10 +16,6 @@ use Rattle.live.specs.declared.types.Settling.{Settling}
 use Rattle.live.specs.declared.types.LenAnswer.{LenAnswer}
 use Rattle.live.specs.declared.types.TimeAnswer.{TimeAnswer}
 use Rattle.script.specs.declared.types.Called.{Called}
-
--- a flag as a number
-abbrev pub flagOf : Bool → ℕ
-flagOf on = pick on 1 0
 
 -- a number and one value, with a path
 abbrev pub called : Liveness → ℕ → ℕ → Called

@@ -4,7 +4,7 @@ use Prim.Native.Nat.{ℕ, _%_, _^_}
 use mathlib.Core.List.{List}
 use mathlib.Core.Bool.{Bool, true}
 use lib.Dec.{eqb, ltb}
-use Rattle.base.specs.Seq.{pick}
+use Rattle.base.specs.Seq.{pick, flagOf}
 use Rattle.ring.specs.Ring.{outstandingOf, earliestDue}
 use Rattle.ring.specs.declared.types.Sent.{Sent}
 use Rattle.rtt.specs.Samples.{minRtt, maxRtt, samplesOf}
@@ -15,7 +15,7 @@ use Rattle.live.specs.Probe.{takeIdOf, sendOf, answerOf, expireOf, lapseOf, cle
 use Rattle.live.specs.Search.{freshOf, sizeOf, proveOf, seekSizeOf, seekSendOf, seekRingOf, seekAnswerOf, seekProvedOf, seekJudgeOf}
 use Rattle.live.specs.Times.{sampleOf, foldedOf, timeoutOf, heardOf, carriedOf, shedOf, haltedOf, spentOf, owedOf, rebasedOf}
 use Rattle.live.specs.declared.types.Liveness.{Liveness}
-use Rattle.script.specs.Answers.{flagOf, kindless, plain, valued, timed, idCalled, answerCalled, expiredCalled, doneCalled, lenCalled, settledCalled, timeCalled, provedCalled, raisedCalled, judgedCalled}
+use Rattle.script.specs.Answers.{kindless, plain, valued, timed, idCalled, answerCalled, expiredCalled, doneCalled, lenCalled, settledCalled, timeCalled, provedCalled, raisedCalled, judgedCalled}
 use Rattle.script.specs.declared.types.Call.{Call}
 use Rattle.script.specs.declared.types.Called.{Called}
 

@@ -1,17 +1,10 @@
 // Answers as numbers: the refusal number or 0, then the values, 0 where there are fewer than five.
 ghost use mathlib.Core.Path.{_≡_};
 ghost use Rattle.base.specs.Refusals.{refusalNumber};
-ghost use Rattle.script.specs.Answers.{flagOf, plain, valued, timed, idCalled, answerCalled, expiredCalled, doneCalled, lenCalled, settledCalled, timeCalled, kindless, provedCalled, raisedCalled, judgedCalled};
+ghost use Rattle.script.specs.Answers.{plain, valued, timed, idCalled, answerCalled, expiredCalled, doneCalled, lenCalled, settledCalled, timeCalled, kindless, provedCalled, raisedCalled, judgedCalled};
 use crate::types::Called;
 use base::types::*;
 use live::types::*;
-
-// A flag as a number.
-pub fn flag(on: bool) -> u64
-    ensures { λ r. ⌜ r ≡ flagOf on ⌝ }
-{
-    if on { 1 } else { 0 }
-}
 
 // The number of a refusal in document 01's table.
 pub fn number(why: Refusal) -> u64

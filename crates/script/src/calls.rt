@@ -60,7 +60,7 @@ fn line_call(path: Liveness, c: Call) -> Called
     let op = c.op;
     match op {
         5 => give(path.lapse(sent(c))),
-        6 => tell(path, flag(path.room(c.a))),
+        6 => tell(path, base::flag::flag(path.room(c.a))),
         7 => give(path.fresh()),
         8 => give(path.thaw()),
         _ => give(path.clear()),
@@ -118,7 +118,7 @@ fn time_call(path: Liveness, c: Call) -> Called
         25 => of_doing(path.heard(low(c.a), c.b)),
         26 => give(path.carried(c.a)),
         27 => of_doing(path.shed(low(c.a))),
-        28 => tell(path, flag(path.stopped())),
+        28 => tell(path, base::flag::flag(path.stopped())),
         29 => tell_time(path, path.held()),
         _ => tell_time(path, path.recheck()),
     }

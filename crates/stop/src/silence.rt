@@ -1,6 +1,5 @@
 // A path's stop: when its next probe may go, and how its gaps grow.
 ghost use mathlib.Core.Path.{_≡_};
-ghost use Prim.Native.Nat.{max};
 ghost use Rattle.stop.specs.Silence.{fromOf, quietFrom, untilOf, firstStop, haltIn, haltOf, isBefore, gapAfter, spentOf, spendOf, markedOf, oweOf, rebasedOf, rebaseOf, stoppedOf, heldOf, gapWith, recheckOf};
 use crate::types::*;
 use base::types::MaybeTime;
@@ -176,13 +175,6 @@ pub fn owe(s: Silence) -> Silence
     }
 }
 
-// The later of two instants.
-fn later(a: u64, b: u64) -> u64
-    ensures { λ r. ⌜ r ≡ max a b ⌝ }
-{
-    if a < b { b } else { a }
-}
-
 // A stop whose owed slot is settled at `at`: opened or not.
 fn rebased(x: Stop, at: u64, ok: bool) -> Stop
     ensures { λ r. ⌜ r ≡ rebasedOf at ok x ⌝ }
@@ -192,7 +184,7 @@ fn rebased(x: Stop, at: u64, ok: bool) -> Stop
     }
     if ok {
         let least = base::time::deadline(at, x.used);
-        let free = later(x.free, least);
+        let free = base::time::larger(x.free, least);
         return marked(x, free, false);
     }
     marked(x, x.free, false)

@@ -19,7 +19,7 @@ pub enum MaybeStop {
     Some(Stop),
 }
 
-// The stop, while there is one, and the instant of the first send since the path was last heard.
+// The stop, while there is one, and the instant of the first probe ever sent into the ring.
 pub struct Silence {
     pub stop: MaybeStop,
     pub quiet: MaybeTime,

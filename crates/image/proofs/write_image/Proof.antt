@@ -1,3 +1,5 @@
+-- `image::write_image` meets its contract.
+-- Assumes nothing.
 use borrow.Author.Needs.{needs}
 use mathlib.Core.Path.{_≡_, refl, ap}
 use lib.ListN.{length, length-map}
@@ -8,14 +10,7 @@ use Rattle.image.proofs.Lengths.{rtts-length, front-length, image-lengt
 use Rattle.image.proofs.PartLaws.{refused, none-yet, part, written}
 use Rattle.image.proofs.write_image.Statement.{statement}
 use Rattle.image.proofs.write_image.Tie as tie
-use Rattle.image.proofs.write_image.Reads as reads
-use Rattle.image.proofs.write_image.Lts as lts
-use Rattle.image.proofs.parts.write_front.Reads as write-front-reads
-use Rattle.image.proofs.parts.write_rtts.Reads as write-rtts-reads
-use Rattle.image.proofs.words.etx_bits.Reads as etx-bits-reads
-use Rattle.octets.proofs.put_words.Reads as put-words-reads
 
--- src/lib.rt:18:9
 returns : tie.Need-returns
 unfolding imageOf
 returns c =
@@ -28,67 +23,51 @@ returns c =
     let k = refused _ (image-length p x y m n) (c .if1 .taken) in
     (k .0, (k .1, image-bytes p x y m n))
 
--- src/lib.rt:21:16
 etx-bits-requires : tie.Need-etx-bits-requires
 etx-bits-requires c κs = search needs
 
--- src/lib.rt:22:17
 sub-write-front : tie.Need-sub-write-front
 sub-write-front c = search needs
 
--- src/lib.rt:22:17
 part-write-front-start : tie.Need-part-write-front-start
 part-write-front-start c = search needs
 
--- src/lib.rt:22:17
 part-write-front-end : tie.Need-part-write-front-end
 part-write-front-end c = search needs
 
--- src/lib.rt:22:5
 write-front-requires : tie.Need-write-front-requires
 write-front-requires c κs = search needs
 
--- src/lib.rt:23:16
 sub-write-rtts : tie.Need-sub-write-rtts
 sub-write-rtts c = search needs
 
--- src/lib.rt:23:16
 part-write-rtts-start : tie.Need-part-write-rtts-start
 part-write-rtts-start c = search needs
 
--- src/lib.rt:23:16
 part-write-rtts-end : tie.Need-part-write-rtts-end
 part-write-rtts-end c = search needs
 
--- src/lib.rt:23:5
 write-rtts-requires : tie.Need-write-rtts-requires
 write-rtts-requires c κs = search needs
 
--- src/lib.rt:24:23
 sub-put-words : tie.Need-sub-put-words
 sub-put-words c = search needs
 
--- src/lib.rt:24:23
 part-put-words-start : tie.Need-part-put-words-start
 part-put-words-start c = search needs
 
--- src/lib.rt:24:23
 part-put-words-end : tie.Need-part-put-words-end
 part-put-words-end c = search needs
 
--- src/lib.rt:24:41
 slice-aggregate-put-words : tie.Need-slice-aggregate-put-words
 slice-aggregate-put-words c = search needs
 
--- src/lib.rt:24:5
 put-words-requires : tie.Need-put-words-requires
 put-words-requires c κs = search needs
 
--- src/lib.rt:14:1
 same-length : tie.Need-same-length
 same-length c = search needs
 
--- src/lib.rt:14:1
 returns-2 : tie.Need-returns-2
 unfolding imageWords imageOf
 returns-2 c =

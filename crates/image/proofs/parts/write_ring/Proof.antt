@@ -1,3 +1,5 @@
+-- `image::parts::write_ring` meets its contract.
+-- Assumes nothing.
 use borrow.Author.Needs.{needs}
 use Prim.Native.Nat.{_-_}
 use native.Mathlib.Omega.{arith}
@@ -6,10 +8,6 @@ use Rattle.image.specs.Image.{sentWords}
 use Rattle.image.proofs.PartLaws.{Putting, putting-start, putting-length, putting-room, putting-next, putting-end, refused-all}
 use Rattle.image.proofs.parts.write_ring.Statement.{statement}
 use Rattle.image.proofs.parts.write_ring.Tie as tie
-use Rattle.image.proofs.parts.write_ring.Reads as reads
-use Rattle.image.proofs.parts.write_ring.Lts as lts
-use Rattle.image.proofs.words.sent_words.Reads as sent-words-reads
-use Rattle.octets.proofs.put_words.Reads as put-words-reads
 
 abbrev Inv-loop : tie.InvT-loop
 Inv-loop out₀ ring i₀ at₀ out i at = Putting sentWords 40 ring 8 out₀ out at i
@@ -17,67 +15,51 @@ Inv-loop out₀ ring i₀ at₀ out i at = Putting sentWords 40 ring 8 out₀ ou
 abbrev μ-loop : tie.MeasureT-loop
 μ-loop out₀ ring i₀ at₀ out i at = 8 - i
 
--- src/parts.rt:18:9
 returns : tie.Need-returns Inv-loop μ-loop
 returns c = refused-all sentWords _ 8 (λ x. refl) (search needs) (c .if1 .taken)
 
--- src/parts.rt:22:5
 loop-holds : tie.Need-loop-holds Inv-loop μ-loop
 loop-holds c = putting-start (λ x. refl) (search needs) (c .if1 .left)
 
--- src/parts.rt:23:17
 mul-s : tie.Need-mul-s Inv-loop μ-loop
 mul-s c = search needs
 
--- src/parts.rt:23:17
 array-copy-out-s : tie.Need-array-copy-out-s Inv-loop μ-loop
 array-copy-out-s c = search needs
 
--- src/parts.rt:24:17
 sent-words-requires : tie.Need-sent-words-requires Inv-loop μ-loop
 sent-words-requires c κs = search needs
 
--- src/parts.rt:25:19
 sub-put-words : tie.Need-sub-put-words Inv-loop μ-loop
 sub-put-words c = omega (arith, putting-room (c .before .before .before .loop .inv) (c .before .before .loop-test .taken))
 
--- src/parts.rt:25:19
 part-put-words-start : tie.Need-part-put-words-start Inv-loop μ-loop
 part-put-words-start c = omega (arith, putting-room (c .before .before .before .loop .inv) (c .before .before .loop-test .taken))
 
--- src/parts.rt:25:19
 part-put-words-end : tie.Need-part-put-words-end Inv-loop μ-loop
 part-put-words-end c = omega (arith, putting-room (c .before .before .before .loop .inv) (c .before .before .loop-test .taken))
 
--- src/parts.rt:25:35
 slice-aggregate-put-words : tie.Need-slice-aggregate-put-words Inv-loop μ-loop
 slice-aggregate-put-words c = search needs
 
--- src/parts.rt:25:9
 put-words-requires : tie.Need-put-words-requires Inv-loop μ-loop
 put-words-requires c κs = search needs
 
--- src/parts.rt:26:9
 add-at : tie.Need-add-at Inv-loop μ-loop
 add-at c = omega (arith, putting-room (c .before .before .before .before .before .before .before .before .loop .inv) (c .before .before .before .before .before .before .before .loop-test .taken))
 
--- src/parts.rt:27:9
 add-i : tie.Need-add-i Inv-loop μ-loop
 add-i c = search needs
 
--- src/parts.rt:22:5
 loop-less : tie.Need-loop-less Inv-loop μ-loop
 loop-less c = search needs
 
--- src/parts.rt:22:5
 loop-again : tie.Need-loop-again Inv-loop μ-loop
 loop-again c = putting-next (c .before .before .before .before .before .before .before .before .loop .inv) (c .before .before .before .before .before .before .before .loop-test .taken) _ (c .before .before .before .before .before .sent-words .ensures) (c .before .before .put-words .ensures .1)
 
--- src/parts.rt:14:1
 same-length : tie.Need-same-length Inv-loop μ-loop
 same-length c = putting-length (c .before .loop .inv)
 
--- src/parts.rt:14:1
 returns-2 : tie.Need-returns-2 Inv-loop μ-loop
 returns-2 c = putting-end (c .before .loop .inv) (c .loop-test .left)
 

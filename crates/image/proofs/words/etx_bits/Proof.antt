@@ -1,18 +1,15 @@
-use Rattle.image.proofs.FloatLaws.{is-nan, no-nan}
+-- `image::words::etx_bits` meets its contract.
+-- Assumes nothing.
+use Rattle.total.proofs.ValueLaws.{is-nan, no-nan}
 use Rattle.image.proofs.words.etx_bits.Statement.{statement}
 use Rattle.image.proofs.words.etx_bits.Tie as tie
-use Rattle.image.proofs.words.etx_bits.Reads as reads
-use Rattle.image.proofs.words.etx_bits.Lts as lts
 
--- src/words.rt:155:9
 returns : tie.Need-returns
 returns c = rw (is-nan _ (c .if1 .taken))
 
--- src/words.rt:157:5
 float-to-bits-result : tie.Need-float-to-bits-result
 float-to-bits-result c = rw (no-nan _ (c .if1 .left)) tt
 
--- src/words.rt:151:1
 returns-2 : tie.Need-returns-2
 returns-2 c = rw (no-nan _ (c .if1 .left))
 

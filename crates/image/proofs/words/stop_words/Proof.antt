@@ -1,38 +1,28 @@
+-- `image::words::stop_words` meets its contract.
+-- Assumes nothing.
 use borrow.Author.Needs.{needs}
 use Rattle.image.proofs.StopLaw.{stop-made}
 use Rattle.image.proofs.words.stop_words.Statement.{statement}
 use Rattle.image.proofs.words.stop_words.Tie as tie
-use Rattle.image.proofs.words.stop_words.Reads as reads
-use Rattle.image.proofs.words.stop_words.Lts as lts
-use Rattle.image.proofs.words.flag.Reads as flag-reads
-use Rattle.image.proofs.words.time_tag.Reads as time-tag-reads
-use Rattle.image.proofs.words.time_value.Reads as time-value-reads
 
--- src/words.rt:108:28
 enum-told : tie.Need-enum-told
 enum-told c = search needs
 
--- src/words.rt:109:25
 enum-known-x : tie.Need-enum-known-x
 enum-known-x c = search needs
 
--- src/words.rt:111:40
 time-tag-requires : tie.Need-time-tag-requires
 time-tag-requires c κs = search needs
 
--- src/words.rt:111:57
 time-value-requires : tie.Need-time-value-requires
 time-value-requires c κs = search needs
 
--- src/words.rt:111:76
 flag-requires : tie.Need-flag-requires
 flag-requires c κs = search needs
 
--- src/words.rt:104:1
 returns : tie.Need-returns
 returns c = search needs
 
--- src/words.rt:104:1
 returns-2 : tie.Need-returns-2
 returns-2 c =
     let d = c .before .before .before .before in

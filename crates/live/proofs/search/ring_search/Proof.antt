@@ -1,27 +1,21 @@
+-- `live::search::ring_search` meets its contract.
+-- Assumes nothing.
 use borrow.Author.Needs.{needs}
 use Rattle.live.proofs.search.ring_search.Statement.{statement}
 use Rattle.live.proofs.search.ring_search.Tie as tie
-use Rattle.live.proofs.search.ring_search.Reads as reads
-use Rattle.live.proofs.search.ring_search.Lts as lts
-use Rattle.seek.proofs.search.seek_next.Reads as seek-next-reads
 
--- src/search.rt:77:27
 enum-known-answer : tie.Need-enum-known-answer
 enum-known-answer c = search needs
 
--- src/search.rt:78:22
 enum-known-answer-2 : tie.Need-enum-known-answer-2
 enum-known-answer-2 c = search needs
 
--- src/search.rt:80:17
 seek-next-requires : tie.Need-seek-next-requires
 seek-next-requires c κs = search needs
 
--- src/search.rt:72:1
 returns : tie.Need-returns
 returns c = rw (c .before .answer .given .1)
 
--- src/search.rt:72:1
 returns-2 : tie.Need-returns-2
 returns-2 c = rw (c .before .before .before .answer2 .given .1, c .seek-next .ensures)
 

@@ -1,23 +1,19 @@
+-- `ring::ids::missed` meets its contract.
+-- Assumes nothing.
 use native.Mathlib.Omega.{arith}
 use borrow.Author.Needs.{needs}
 use Rattle.ring.proofs.ids.missed.Statement.{statement}
 use Rattle.ring.proofs.ids.missed.Tie as tie
-use Rattle.ring.proofs.ids.missed.Reads as reads
-use Rattle.ring.proofs.ids.missed.Lts as lts
 
--- src/ids.rt:146:20
 add-result : tie.Need-add-result
 add-result c = search needs
 
--- src/ids.rt:146:13
 returns : tie.Need-returns
 returns c = rw (c .before .if1 .taken) (omega arith)
 
--- src/ids.rt:141:1
 returns-2 : tie.Need-returns-2
 returns-2 c = rw (c .before .if1 .taken) (omega arith)
 
--- src/ids.rt:141:1
 returns-3 : tie.Need-returns-3
 returns-3 c = rw (c .if1 .left)
 

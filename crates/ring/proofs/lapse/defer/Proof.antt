@@ -1,42 +1,32 @@
+-- `ring::lapse::defer` meets its contract.
+-- Assumes nothing.
 use mathlib.Core.Path.{sym}
 use borrow.Author.Tests.{lt-ltb, le-ltb}
 use borrow.Author.Needs.{needs}
 use Rattle.ring.proofs.lapse.defer.Statement.{statement}
 use Rattle.ring.proofs.lapse.defer.Tie as tie
-use Rattle.ring.proofs.lapse.defer.Reads as reads
-use Rattle.ring.proofs.lapse.defer.Lts as lts
-use Rattle.ring.proofs.lapse.passed.Reads as passed-reads
-use Rattle.base.proofs.time.deadline.Reads as deadline-reads
 
--- src/lapse.rt:45:28
 enum-told : tie.Need-enum-told
 enum-told c = search needs
 
--- src/lapse.rt:46:25
 enum-known-data-at : tie.Need-enum-known-data-at
 enum-known-data-at c = search needs
 
--- src/lapse.rt:48:21
 deadline-requires : tie.Need-deadline-requires
 deadline-requires c κs = search needs
 
--- src/lapse.rt:49:20
 passed-requires : tie.Need-passed-requires
 passed-requires c κs = search needs
 
--- src/lapse.rt:41:1
 returns : tie.Need-returns
 returns c = search needs
 
--- src/lapse.rt:41:1
 returns-2 : tie.Need-returns-2
 returns-2 c = rw (c .before .before .before .before .before .before .data-at .given .1, lt-ltb _ _ (c .before .before .before .if1 .taken), sym (c .before .before .deadline .ensures), sym (c .before .passed .ensures), c .if2 .taken)
 
--- src/lapse.rt:41:1
 returns-3 : tie.Need-returns-3
 returns-3 c = rw (c .before .before .before .before .before .before .data-at .given .1, lt-ltb _ _ (c .before .before .before .if1 .taken), sym (c .before .before .deadline .ensures), sym (c .before .passed .ensures), c .if2 .left)
 
--- src/lapse.rt:41:1
 returns-4 : tie.Need-returns-4
 returns-4 c = rw (c .before .before .before .data-at .given .1, le-ltb _ _ (c .if1 .left))
 

@@ -1,3 +1,5 @@
+-- `ring::lapse::scan` meets its contract.
+-- Assumes nothing.
 use borrow.Author.Needs.{needs}
 use mathlib.Core.Path.{refl, sym, _∙_}
 use lib.ListN.{length}
@@ -6,10 +8,6 @@ use Rattle.ring.specs.Lapse.{isPassed, deferOf}
 use Rattle.ring.proofs.LapseLaws.{Scanning, scanning-defers, scanning-lapses, scanning-none, scanning-less, not-passed}
 use Rattle.ring.proofs.lapse.scan.Statement.{statement}
 use Rattle.ring.proofs.lapse.scan.Tie as tie
-use Rattle.ring.proofs.lapse.scan.Reads as reads
-use Rattle.ring.proofs.lapse.scan.Lts as lts
-use Rattle.ring.proofs.lapse.defer.Reads as defer-reads
-use Rattle.ring.proofs.lapse.first_passed.Reads as first-passed-reads
 
 abbrev Inv-loop : tie.InvT-loop
 Inv-loop data-at cap now overdue left₀ left = Scanning (isPassed now overdue) (deferOf data-at cap now overdue) left₀ 8 left
@@ -17,59 +15,46 @@ Inv-loop data-at cap now overdue left₀ left = Scanning (isPassed now overdue) 
 abbrev μ-loop : tie.MeasureT-loop
 μ-loop data-at cap now overdue left₀ left = length (keep (isPassed now overdue) left)
 
--- src/lapse.rt:72:9
 loop-holds : tie.Need-loop-holds Inv-loop μ-loop
 loop-holds c = record { sound = not-passed _ _ _ (c .args .data-at); long = search needs; same = refl }
 
--- src/lapse.rt:73:13
 first-passed-requires : tie.Need-first-passed-requires Inv-loop μ-loop
 first-passed-requires c κs = search needs
 
--- src/lapse.rt:77:17
 mul-s : tie.Need-mul-s Inv-loop μ-loop
 mul-s c = search needs
 
--- src/lapse.rt:77:17
 array-copy-out-s : tie.Need-array-copy-out-s Inv-loop μ-loop
 array-copy-out-s c = search needs
 
--- src/lapse.rt:78:13
 defer-requires : tie.Need-defer-requires Inv-loop μ-loop
 defer-requires c κs = search needs
 
--- src/lapse.rt:81:23
 enum-told : tie.Need-enum-told Inv-loop μ-loop
 enum-told c = search needs
 
--- src/lapse.rt:83:29
 enum-known-wait : tie.Need-enum-known-wait Inv-loop μ-loop
 enum-known-wait c = search needs
 
--- src/lapse.rt:84:17
 mul-left : tie.Need-mul-left Inv-loop μ-loop
 mul-left c = search needs
 
--- src/lapse.rt:84:17
 array-set-from-left : tie.Need-array-set-from-left Inv-loop μ-loop
 array-set-from-left c = search needs
 
--- src/lapse.rt:72:9
 loop-less : tie.Need-loop-less Inv-loop μ-loop
 loop-less c =
     scanning-less _ (c .before .before .before .before .before .before .before .loop .inv) (c .before .before .before .before .before .before .first-passed .ensures) (c .before .before .before .before .before .if1 .left) _
     (sym (c .before .before .before .defer .ensures) ∙ c .before .wait .given .1)
 
--- src/lapse.rt:72:9
 loop-again : tie.Need-loop-again Inv-loop μ-loop
 loop-again c =
     scanning-defers _ (c .before .before .before .before .before .before .before .loop .inv) (c .before .before .before .before .before .before .first-passed .ensures) (c .before .before .before .before .before .if1 .left) _
     (sym (c .before .before .before .defer .ensures) ∙ c .before .wait .given .1)
 
--- src/lapse.rt:68:1
 returns : tie.Need-returns Inv-loop μ-loop
 returns c = scanning-none (c .before .before .loop .inv) (c .before .first-passed .ensures) (c .if1 .taken)
 
--- src/lapse.rt:68:1
 returns-2 : tie.Need-returns-2 Inv-loop μ-loop
 returns-2 c = scanning-lapses _ (c .before .before .before .before .before .before .loop .inv) (c .before .before .before .before .before .first-passed .ensures) (c .before .before .before .before .if1 .left) (sym (c .before .before .defer .ensures) ∙ c .enum-told .given .1)
 

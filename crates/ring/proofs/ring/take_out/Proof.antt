@@ -1,39 +1,30 @@
+-- `ring::ring::take_out` meets its contract.
+-- Assumes nothing.
 use lib.Seq.{set-out}
 use lib.ListN.{length}
 use Prim.Native.Nat.{_≤_}
 use borrow.Author.Needs.{needs}
 use Rattle.ring.proofs.ring.take_out.Statement.{statement}
 use Rattle.ring.proofs.ring.take_out.Tie as tie
-use Rattle.ring.proofs.ring.take_out.Reads as reads
-use Rattle.ring.proofs.ring.take_out.Lts as lts
-use Rattle.ring.proofs.ring.compact.Reads as compact-reads
-use Rattle.ring.proofs.ring.none.Reads as none-reads
 
--- src/ring.rt:106:9
 none-requires : tie.Need-none-requires
 none-requires c κs = search needs
 
--- src/ring.rt:109:9
 mul-open : tie.Need-mul-open
 mul-open c = search needs
 
--- src/ring.rt:109:9
 array-set-from-open : tie.Need-array-set-from-open
 array-set-from-open c = search needs
 
--- src/ring.rt:110:9
 compact-requires : tie.Need-compact-requires
 compact-requires c κs = search needs
 
--- src/ring.rt:110:9
 returns : tie.Need-returns
 returns c = rw (c .compact .ensures, c .before .before .none .ensures)
 
--- src/ring.rt:112:5
 compact-requires-2 : tie.Need-compact-requires-2
 compact-requires-2 c κs = search needs
 
--- src/ring.rt:103:1
 returns-2 : tie.Need-returns-2
 returns-2 c = let k : length (c .before .before .before .args .ring) ≤ c .before .before .before .args .slot = search needs in rw (c .compact2 .ensures, set-out (c .before .before .before .args .ring) (c .before .before .before .args .slot) _ k)
 

@@ -1,51 +1,39 @@
+-- `script::answers::of_answering` meets its contract.
+-- Assumes nothing.
 use borrow.Author.Needs.{needs}
 use Rattle.script.proofs.answers.of_answering.Statement.{statement}
 use Rattle.script.proofs.answers.of_answering.Tie as tie
-use Rattle.script.proofs.answers.of_answering.Reads as reads
-use Rattle.script.proofs.answers.of_answering.Lts as lts
-use Rattle.script.proofs.answers.number.Reads as number-reads
 
--- src/answers.rt:101:24
 enum-known-answer : tie.Need-enum-known-answer
 enum-known-answer c = search needs
 
--- src/answers.rt:103:27
 cast-t8 : tie.Need-cast-t8
 cast-t8 c = search needs
 
--- src/answers.rt:103:59
 cast-t9 : tie.Need-cast-t9
 cast-t9 c = search needs
 
--- src/answers.rt:105:22
 enum-known-answer-2 : tie.Need-enum-known-answer-2
 enum-known-answer-2 c = search needs
 
--- src/answers.rt:107:27
 cast-t11 : tie.Need-cast-t11
 cast-t11 c = search needs
 
--- src/answers.rt:107:59
 cast-t12 : tie.Need-cast-t12
 cast-t12 c = search needs
 
--- src/answers.rt:109:25
 enum-known-answer-3 : tie.Need-enum-known-answer-3
 enum-known-answer-3 c = search needs
 
--- src/answers.rt:111:21
 number-requires : tie.Need-number-requires
 number-requires c κs = search needs
 
--- src/answers.rt:95:1
 returns : tie.Need-returns
 returns c = rw (c .before .before .before .answer .given .1)
 
--- src/answers.rt:95:1
 returns-2 : tie.Need-returns-2
 returns-2 c = rw (c .before .before .before .answer2 .given .1)
 
--- src/answers.rt:95:1
 returns-3 : tie.Need-returns-3
 returns-3 c = rw (c .before .before .answer3 .given .1, c .number .ensures)
 

@@ -1,35 +1,27 @@
+-- `script::answers::of_judging` meets its contract.
+-- Assumes nothing.
 use borrow.Author.Needs.{needs}
 use Rattle.script.proofs.answers.of_judging.Statement.{statement}
 use Rattle.script.proofs.answers.of_judging.Tie as tie
-use Rattle.script.proofs.answers.of_judging.Reads as reads
-use Rattle.script.proofs.answers.of_judging.Lts as lts
-use Rattle.script.proofs.answers.number.Reads as number-reads
 
--- src/answers.rt:261:20
 enum-told : tie.Need-enum-told
 enum-told c = search needs
 
--- src/answers.rt:265:20
 enum-told-2 : tie.Need-enum-told-2
 enum-told-2 c = search needs
 
--- src/answers.rt:267:30
 enum-known-answer : tie.Need-enum-known-answer
 enum-known-answer c = search needs
 
--- src/answers.rt:269:21
 number-requires : tie.Need-number-requires
 number-requires c κs = search needs
 
--- src/answers.rt:253:1
 returns : tie.Need-returns
 returns c = rw (c .enum-told .given .1)
 
--- src/answers.rt:253:1
 returns-2 : tie.Need-returns-2
 returns-2 c = rw (c .enum-told2 .given .1)
 
--- src/answers.rt:253:1
 returns-3 : tie.Need-returns-3
 returns-3 c = rw (c .before .before .answer .given .1, c .number .ensures)
 

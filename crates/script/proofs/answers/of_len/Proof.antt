@@ -1,31 +1,24 @@
+-- `script::answers::of_len` meets its contract.
+-- Assumes nothing.
 use borrow.Author.Needs.{needs}
 use Rattle.script.proofs.answers.of_len.Statement.{statement}
 use Rattle.script.proofs.answers.of_len.Tie as tie
-use Rattle.script.proofs.answers.of_len.Reads as reads
-use Rattle.script.proofs.answers.of_len.Lts as lts
-use Rattle.script.proofs.answers.number.Reads as number-reads
 
--- src/answers.rt:165:24
 enum-known-answer : tie.Need-enum-known-answer
 enum-known-answer c = search needs
 
--- src/answers.rt:167:24
 cast-t6 : tie.Need-cast-t6
 cast-t6 c = search needs
 
--- src/answers.rt:169:28
 enum-known-answer-2 : tie.Need-enum-known-answer-2
 enum-known-answer-2 c = search needs
 
--- src/answers.rt:171:21
 number-requires : tie.Need-number-requires
 number-requires c κs = search needs
 
--- src/answers.rt:161:1
 returns : tie.Need-returns
 returns c = rw (c .before .answer .given .1)
 
--- src/answers.rt:161:1
 returns-2 : tie.Need-returns-2
 returns-2 c = rw (c .before .before .answer2 .given .1, c .number .ensures)
 

@@ -1,27 +1,21 @@
+-- `script::answers::of_time` meets its contract.
+-- Assumes nothing.
 use borrow.Author.Needs.{needs}
 use Rattle.script.proofs.answers.of_time.Statement.{statement}
 use Rattle.script.proofs.answers.of_time.Tie as tie
-use Rattle.script.proofs.answers.of_time.Reads as reads
-use Rattle.script.proofs.answers.of_time.Lts as lts
-use Rattle.script.proofs.answers.number.Reads as number-reads
 
--- src/answers.rt:197:26
 enum-known-answer : tie.Need-enum-known-answer
 enum-known-answer c = search needs
 
--- src/answers.rt:201:29
 enum-known-answer-2 : tie.Need-enum-known-answer-2
 enum-known-answer-2 c = search needs
 
--- src/answers.rt:203:21
 number-requires : tie.Need-number-requires
 number-requires c κs = search needs
 
--- src/answers.rt:193:1
 returns : tie.Need-returns
 returns c = rw (c .before .answer .given .1)
 
--- src/answers.rt:193:1
 returns-2 : tie.Need-returns-2
 returns-2 c = rw (c .before .before .answer2 .given .1, c .number .ensures)
 

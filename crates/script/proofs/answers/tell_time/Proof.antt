@@ -1,22 +1,18 @@
+-- `script::answers::tell_time` meets its contract.
+-- Assumes nothing.
 use borrow.Author.Needs.{needs}
 use Rattle.script.proofs.answers.tell_time.Statement.{statement}
 use Rattle.script.proofs.answers.tell_time.Tie as tie
-use Rattle.script.proofs.answers.tell_time.Reads as reads
-use Rattle.script.proofs.answers.tell_time.Lts as lts
 
--- src/answers.rt:67:20
 enum-told : tie.Need-enum-told
 enum-told c = search needs
 
--- src/answers.rt:69:25
 enum-known-x : tie.Need-enum-known-x
 enum-known-x c = search needs
 
--- src/answers.rt:61:1
 returns : tie.Need-returns
 returns c = rw (c .enum-told .given .1)
 
--- src/answers.rt:61:1
 returns-2 : tie.Need-returns-2
 returns-2 c = rw (c .before .x .given .1)
 

@@ -1,37 +1,28 @@
+-- `script::calls::high_call` meets its contract.
+-- Assumes nothing.
 use Rattle.script.specs.Calls.{highCall}
 use borrow.Author.Tests.{lt-ltb, le-ltb}
 use borrow.Author.Needs.{needs}
 use Rattle.script.proofs.calls.high_call.Statement.{statement}
 use Rattle.script.proofs.calls.high_call.Tie as tie
-use Rattle.script.proofs.calls.high_call.Reads as reads
-use Rattle.script.proofs.calls.high_call.Lts as lts
-use Rattle.script.proofs.calls.read_call.Reads as read-call-reads
-use Rattle.script.proofs.calls.stop_call.Reads as stop-call-reads
-use Rattle.script.proofs.calls.time_call.Reads as time-call-reads
 
--- src/calls.rt:142:9
 stop-call-requires : tie.Need-stop-call-requires
 stop-call-requires c κs = search needs
 
--- src/calls.rt:142:9
 returns : tie.Need-returns
 unfolding highCall
 returns c = rw (lt-ltb _ _ (c .before .if1 .taken)) (c .stop-call .ensures)
 
--- src/calls.rt:145:9
 time-call-requires : tie.Need-time-call-requires
 time-call-requires c κs = search needs
 
--- src/calls.rt:145:9
 returns-2 : tie.Need-returns-2
 unfolding highCall
 returns-2 c = rw (le-ltb _ _ (c .before .before .before .if1 .left), lt-ltb _ _ (c .before .if2 .taken)) (c .time-call .ensures)
 
--- src/calls.rt:147:5
 read-call-requires : tie.Need-read-call-requires
 read-call-requires c κs = search needs
 
--- src/calls.rt:138:1
 returns-3 : tie.Need-returns-3
 unfolding highCall
 returns-3 c = rw (le-ltb _ _ (c .before .before .before .if1 .left), le-ltb _ _ (c .before .if2 .left)) (c .read-call .ensures)

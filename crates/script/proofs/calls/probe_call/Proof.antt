@@ -1,109 +1,76 @@
+-- `script::calls::probe_call` meets its contract.
+-- Assumes nothing.
 use Rattle.script.specs.Calls.{probeCall}
 use borrow.Author.Tests.{ne-eqb}
 use Rattle.script.proofs.Keys.{key}
 use borrow.Author.Needs.{needs}
 use Rattle.script.proofs.calls.probe_call.Statement.{statement}
 use Rattle.script.proofs.calls.probe_call.Tie as tie
-use Rattle.script.proofs.calls.probe_call.Reads as reads
-use Rattle.script.proofs.calls.probe_call.Lts as lts
-use Rattle.live.proofs.types.Liveness.answer.Reads as answer-reads
-use Rattle.live.proofs.types.Liveness.expire.Reads as expire-reads
-use Rattle.live.proofs.types.Liveness.new.Reads as new-reads
-use Rattle.live.proofs.types.Liveness.send.Reads as send-reads
-use Rattle.live.proofs.types.Liveness.take_id.Reads as take-id-reads
-use Rattle.script.proofs.answers.give.Reads as give-reads
-use Rattle.script.proofs.answers.of_answering.Reads as of-answering-reads
-use Rattle.script.proofs.answers.of_expiring.Reads as of-expiring-reads
-use Rattle.script.proofs.answers.of_sending.Reads as of-sending-reads
-use Rattle.script.proofs.answers.tell.Reads as tell-reads
-use Rattle.script.proofs.calls.low.Reads as low-reads
-use Rattle.script.proofs.calls.odd.Reads as odd-reads
 
--- src/calls.rt:38:19
 new-requires : tie.Need-new-requires
 new-requires c κs = search needs
 
--- src/calls.rt:38:14
 give-requires : tie.Need-give-requires
 give-requires c κs = search needs
 
--- src/calls.rt:40:34
 low-requires : tie.Need-low-requires
 low-requires c κs = search needs
 
--- src/calls.rt:40:17
 take-id-requires : tie.Need-take-id-requires
 take-id-requires c κs = search needs
 
--- src/calls.rt:42:24
 cast-tell : tie.Need-cast-tell
 cast-tell c = search needs
 
--- src/calls.rt:42:13
 tell-requires : tie.Need-tell-requires
 tell-requires c κs = search needs
 
--- src/calls.rt:44:45
 low-requires-2 : tie.Need-low-requires-2
 low-requires-2 c κs = search needs
 
--- src/calls.rt:44:55
 low-requires-3 : tie.Need-low-requires-3
 low-requires-3 c κs = search needs
 
--- src/calls.rt:44:25
 send-requires : tie.Need-send-requires
 send-requires c κs = search needs
 
--- src/calls.rt:44:14
 of-sending-requires : tie.Need-of-sending-requires
 of-sending-requires c κs = search needs
 
--- src/calls.rt:45:39
 low-requires-4 : tie.Need-low-requires-4
 low-requires-4 c κs = search needs
 
--- src/calls.rt:45:27
 answer-requires : tie.Need-answer-requires
 answer-requires c κs = search needs
 
--- src/calls.rt:45:14
 of-answering-requires : tie.Need-of-answering-requires
 of-answering-requires c κs = search needs
 
--- src/calls.rt:46:43
 odd-requires : tie.Need-odd-requires
 odd-requires c κs = search needs
 
--- src/calls.rt:46:26
 expire-requires : tie.Need-expire-requires
 expire-requires c κs = search needs
 
--- src/calls.rt:46:14
 of-expiring-requires : tie.Need-of-expiring-requires
 of-expiring-requires c κs = search needs
 
--- src/calls.rt:33:1
 returns : tie.Need-returns
 unfolding probeCall
 returns c = rw (key 0 (c .before .before .match .keys1), c .give .ensures, c .before .new .ensures)
 
--- src/calls.rt:33:1
 returns-2 : tie.Need-returns-2
 unfolding probeCall
 returns-2 c = rw (key 0 (c .before .before .before .before .before .match .keys2), key 1 (c .before .before .before .before .before .match .keys2), c .tell .ensures, c .before .before .before .take-id .ensures, c .before .before .before .before .low .ensures)
 
--- src/calls.rt:33:1
 returns-3 : tie.Need-returns-3
 unfolding probeCall
 returns-3 c = rw (key 0 (c .before .before .before .before .match .keys3), key 1 (c .before .before .before .before .match .keys3), key 2 (c .before .before .before .before .match .keys3), c .of-sending .ensures, c .before .send .ensures, c .before .before .low3 .ensures, c .before .before .before .low2 .ensures)
 
--- src/calls.rt:33:1
 returns-4 : tie.Need-returns-4
 unfolding probeCall
 returns-4 c = rw (key 0 (c .before .before .before .match .keys4), key 1 (c .before .before .before .match .keys4), key 2 (c .before .before .before .match .keys4), key 3 (c .before .before .before .match .keys4), c .of-answering .ensures, c .before .answer .ensures, c .before .before .low4 .ensures)
 
--- src/calls.rt:33:1
 returns-5 : tie.Need-returns-5
 unfolding probeCall
 returns-5 c = rw (ne-eqb _ _ (c .before .before .before .match .rest .0 .0 .0 .1), ne-eqb _ _ (c .before .before .before .match .rest .0 .0 .1), ne-eqb _ _ (c .before .before .before .match .rest .0 .1), ne-eqb _ _ (c .before .before .before .match .rest .1), c .of-expiring .ensures, c .before .expire .ensures, c .before .before .odd .ensures)

@@ -1,104 +1,75 @@
+-- `script::calls::read_call` meets its contract.
+-- Assumes nothing.
 use Rattle.script.specs.Calls.{readCall}
 use borrow.Author.Tests.{ne-eqb}
 use Rattle.script.proofs.Keys.{key}
 use borrow.Author.Needs.{needs}
 use Rattle.script.proofs.calls.read_call.Statement.{statement}
 use Rattle.script.proofs.calls.read_call.Tie as tie
-use Rattle.script.proofs.calls.read_call.Reads as reads
-use Rattle.script.proofs.calls.read_call.Lts as lts
-use Rattle.live.proofs.types.Liveness.base_rtt.Reads as base-rtt-reads
-use Rattle.live.proofs.types.Liveness.earliest_due.Reads as earliest-due-reads
-use Rattle.live.proofs.types.Liveness.max_rtt.Reads as max-rtt-reads
-use Rattle.live.proofs.types.Liveness.min_rtt.Reads as min-rtt-reads
-use Rattle.live.proofs.types.Liveness.outstanding.Reads as outstanding-reads
-use Rattle.live.proofs.types.Liveness.samples.Reads as samples-reads
-use Rattle.script.proofs.answers.no_kind.Reads as no-kind-reads
-use Rattle.script.proofs.answers.tell.Reads as tell-reads
-use Rattle.script.proofs.answers.tell_time.Reads as tell-time-reads
 
--- src/calls.rt:127:26
 outstanding-requires : tie.Need-outstanding-requires
 outstanding-requires c κs = search needs
 
--- src/calls.rt:127:15
 tell-requires : tie.Need-tell-requires
 tell-requires c κs = search needs
 
--- src/calls.rt:128:26
 samples-requires : tie.Need-samples-requires
 samples-requires c κs = search needs
 
--- src/calls.rt:128:15
 tell-requires-2 : tie.Need-tell-requires-2
 tell-requires-2 c κs = search needs
 
--- src/calls.rt:129:31
 min-rtt-requires : tie.Need-min-rtt-requires
 min-rtt-requires c κs = search needs
 
--- src/calls.rt:129:15
 tell-time-requires : tie.Need-tell-time-requires
 tell-time-requires c κs = search needs
 
--- src/calls.rt:130:31
 max-rtt-requires : tie.Need-max-rtt-requires
 max-rtt-requires c κs = search needs
 
--- src/calls.rt:130:15
 tell-time-requires-2 : tie.Need-tell-time-requires-2
 tell-time-requires-2 c κs = search needs
 
--- src/calls.rt:131:31
 base-rtt-requires : tie.Need-base-rtt-requires
 base-rtt-requires c κs = search needs
 
--- src/calls.rt:131:15
 tell-time-requires-3 : tie.Need-tell-time-requires-3
 tell-time-requires-3 c κs = search needs
 
--- src/calls.rt:132:31
 earliest-due-requires : tie.Need-earliest-due-requires
 earliest-due-requires c κs = search needs
 
--- src/calls.rt:132:15
 tell-time-requires-4 : tie.Need-tell-time-requires-4
 tell-time-requires-4 c κs = search needs
 
--- src/calls.rt:133:14
 no-kind-requires : tie.Need-no-kind-requires
 no-kind-requires c κs = search needs
 
--- src/calls.rt:122:1
 returns : tie.Need-returns
 unfolding readCall
 returns c = rw (key 31 (c .before .before .match .keys1), c .tell .ensures, c .before .outstanding .ensures)
 
--- src/calls.rt:122:1
 returns-2 : tie.Need-returns-2
 unfolding readCall
 returns-2 c = rw (key 31 (c .before .before .match .keys2), key 32 (c .before .before .match .keys2), c .tell2 .ensures, c .before .samples .ensures)
 
--- src/calls.rt:122:1
 returns-3 : tie.Need-returns-3
 unfolding readCall
 returns-3 c = rw (key 31 (c .before .before .match .keys3), key 32 (c .before .before .match .keys3), key 33 (c .before .before .match .keys3), c .tell-time .ensures, c .before .min-rtt .ensures)
 
--- src/calls.rt:122:1
 returns-4 : tie.Need-returns-4
 unfolding readCall
 returns-4 c = rw (key 31 (c .before .before .match .keys4), key 32 (c .before .before .match .keys4), key 33 (c .before .before .match .keys4), key 34 (c .before .before .match .keys4), c .tell-time2 .ensures, c .before .max-rtt .ensures)
 
--- src/calls.rt:122:1
 returns-5 : tie.Need-returns-5
 unfolding readCall
 returns-5 c = rw (key 31 (c .before .before .match .keys5), key 32 (c .before .before .match .keys5), key 33 (c .before .before .match .keys5), key 34 (c .before .before .match .keys5), key 35 (c .before .before .match .keys5), c .tell-time3 .ensures, c .before .base-rtt .ensures)
 
--- src/calls.rt:122:1
 returns-6 : tie.Need-returns-6
 unfolding readCall
 returns-6 c = rw (key 31 (c .before .before .match .keys6), key 32 (c .before .before .match .keys6), key 33 (c .before .before .match .keys6), key 34 (c .before .before .match .keys6), key 35 (c .before .before .match .keys6), key 36 (c .before .before .match .keys6), c .tell-time4 .ensures, c .before .earliest-due .ensures)
 
--- src/calls.rt:122:1
 returns-7 : tie.Need-returns-7
 unfolding readCall
 returns-7 c = rw (ne-eqb _ _ (c .before .match .rest .0 .0 .0 .0 .0 .1), ne-eqb _ _ (c .before .match .rest .0 .0 .0 .0 .1), ne-eqb _ _ (c .before .match .rest .0 .0 .0 .1), ne-eqb _ _ (c .before .match .rest .0 .0 .1), ne-eqb _ _ (c .before .match .rest .0 .1), ne-eqb _ _ (c .before .match .rest .1), c .no-kind .ensures)

@@ -1,111 +1,79 @@
+-- `script::calls::seek_call` meets its contract.
+-- Assumes nothing.
 use Rattle.script.specs.Calls.{seekCall}
 use borrow.Author.Tests.{ne-eqb}
 use Rattle.script.proofs.Keys.{key}
 use borrow.Author.Needs.{needs}
 use Rattle.script.proofs.calls.seek_call.Statement.{statement}
 use Rattle.script.proofs.calls.seek_call.Tie as tie
-use Rattle.script.proofs.calls.seek_call.Reads as reads
-use Rattle.script.proofs.calls.seek_call.Lts as lts
-use Rattle.live.proofs.types.Liveness.seek_answer.Reads as seek-answer-reads
-use Rattle.live.proofs.types.Liveness.seek_judge.Reads as seek-judge-reads
-use Rattle.live.proofs.types.Liveness.seek_proved.Reads as seek-proved-reads
-use Rattle.live.proofs.types.Liveness.seek_ring.Reads as seek-ring-reads
-use Rattle.live.proofs.types.Liveness.seek_send.Reads as seek-send-reads
-use Rattle.script.proofs.answers.of_judging.Reads as of-judging-reads
-use Rattle.script.proofs.answers.of_raising.Reads as of-raising-reads
-use Rattle.script.proofs.answers.of_sending.Reads as of-sending-reads
-use Rattle.script.proofs.answers.of_settling.Reads as of-settling-reads
-use Rattle.script.proofs.calls.low.Reads as low-reads
 
--- src/calls.rt:84:46
 low-requires : tie.Need-low-requires
 low-requires c κs = search needs
 
--- src/calls.rt:84:56
 low-requires-2 : tie.Need-low-requires-2
 low-requires-2 c κs = search needs
 
--- src/calls.rt:84:26
 seek-send-requires : tie.Need-seek-send-requires
 seek-send-requires c κs = search needs
 
--- src/calls.rt:84:15
 of-sending-requires : tie.Need-of-sending-requires
 of-sending-requires c κs = search needs
 
--- src/calls.rt:85:56
 low-requires-3 : tie.Need-low-requires-3
 low-requires-3 c κs = search needs
 
--- src/calls.rt:85:66
 low-requires-4 : tie.Need-low-requires-4
 low-requires-4 c κs = search needs
 
--- src/calls.rt:85:26
 seek-ring-requires : tie.Need-seek-ring-requires
 seek-ring-requires c κs = search needs
 
--- src/calls.rt:85:15
 of-sending-requires-2 : tie.Need-of-sending-requires-2
 of-sending-requires-2 c κs = search needs
 
--- src/calls.rt:86:44
 low-requires-5 : tie.Need-low-requires-5
 low-requires-5 c κs = search needs
 
--- src/calls.rt:86:27
 seek-answer-requires : tie.Need-seek-answer-requires
 seek-answer-requires c κs = search needs
 
--- src/calls.rt:86:15
 of-settling-requires : tie.Need-of-settling-requires
 of-settling-requires c κs = search needs
 
--- src/calls.rt:87:43
 low-requires-6 : tie.Need-low-requires-6
 low-requires-6 c κs = search needs
 
--- src/calls.rt:87:53
 low-requires-7 : tie.Need-low-requires-7
 low-requires-7 c κs = search needs
 
--- src/calls.rt:87:26
 seek-proved-requires : tie.Need-seek-proved-requires
 seek-proved-requires c κs = search needs
 
--- src/calls.rt:87:15
 of-raising-requires : tie.Need-of-raising-requires
 of-raising-requires c κs = search needs
 
--- src/calls.rt:88:25
 seek-judge-requires : tie.Need-seek-judge-requires
 seek-judge-requires c κs = search needs
 
--- src/calls.rt:88:14
 of-judging-requires : tie.Need-of-judging-requires
 of-judging-requires c κs = search needs
 
--- src/calls.rt:79:1
 returns : tie.Need-returns
 unfolding seekCall
 returns c = rw (key 15 (c .before .before .before .before .match .keys1), c .of-sending .ensures, c .before .seek-send .ensures, c .before .before .low2 .ensures, c .before .before .before .low .ensures)
 
--- src/calls.rt:79:1
 returns-2 : tie.Need-returns-2
 unfolding seekCall
 returns-2 c = rw (key 15 (c .before .before .before .before .match .keys2), key 16 (c .before .before .before .before .match .keys2), c .of-sending2 .ensures, c .before .seek-ring .ensures, c .before .before .low4 .ensures, c .before .before .before .low3 .ensures)
 
--- src/calls.rt:79:1
 returns-3 : tie.Need-returns-3
 unfolding seekCall
 returns-3 c = rw (key 15 (c .before .before .before .match .keys3), key 16 (c .before .before .before .match .keys3), key 17 (c .before .before .before .match .keys3), c .of-settling .ensures, c .before .seek-answer .ensures, c .before .before .low5 .ensures)
 
--- src/calls.rt:79:1
 returns-4 : tie.Need-returns-4
 unfolding seekCall
 returns-4 c = rw (key 15 (c .before .before .before .before .match .keys4), key 16 (c .before .before .before .before .match .keys4), key 17 (c .before .before .before .before .match .keys4), key 18 (c .before .before .before .before .match .keys4), c .of-raising .ensures, c .before .seek-proved .ensures, c .before .before .low7 .ensures, c .before .before .before .low6 .ensures)
 
--- src/calls.rt:79:1
 returns-5 : tie.Need-returns-5
 unfolding seekCall
 returns-5 c = rw (ne-eqb _ _ (c .before .before .match .rest .0 .0 .0 .1), ne-eqb _ _ (c .before .before .match .rest .0 .0 .1), ne-eqb _ _ (c .before .before .match .rest .0 .1), ne-eqb _ _ (c .before .before .match .rest .1), c .of-judging .ensures, c .before .seek-judge .ensures)

@@ -1,110 +1,77 @@
+-- `script::calls::time_call` meets its contract.
+-- Assumes nothing.
 use Rattle.script.specs.Calls.{timeCall}
 use borrow.Author.Tests.{ne-eqb}
 use Rattle.script.proofs.Keys.{key}
 use borrow.Author.Needs.{needs}
 use Rattle.script.proofs.calls.time_call.Statement.{statement}
 use Rattle.script.proofs.calls.time_call.Tie as tie
-use Rattle.script.proofs.calls.time_call.Reads as reads
-use Rattle.script.proofs.calls.time_call.Lts as lts
-use Rattle.live.proofs.types.Liveness.carried.Reads as carried-reads
-use Rattle.live.proofs.types.Liveness.heard.Reads as heard-reads
-use Rattle.live.proofs.types.Liveness.held.Reads as held-reads
-use Rattle.live.proofs.types.Liveness.recheck.Reads as recheck-reads
-use Rattle.live.proofs.types.Liveness.shed.Reads as shed-reads
-use Rattle.live.proofs.types.Liveness.stopped.Reads as stopped-reads
-use Rattle.script.proofs.answers.flag.Reads as flag-reads
-use Rattle.script.proofs.answers.give.Reads as give-reads
-use Rattle.script.proofs.answers.of_doing.Reads as of-doing-reads
-use Rattle.script.proofs.answers.tell.Reads as tell-reads
-use Rattle.script.proofs.answers.tell_time.Reads as tell-time-reads
-use Rattle.script.proofs.calls.low.Reads as low-reads
 
--- src/calls.rt:112:35
 low-requires : tie.Need-low-requires
 low-requires c κs = search needs
 
--- src/calls.rt:112:24
 heard-requires : tie.Need-heard-requires
 heard-requires c κs = search needs
 
--- src/calls.rt:112:15
 of-doing-requires : tie.Need-of-doing-requires
 of-doing-requires c κs = search needs
 
--- src/calls.rt:113:20
 carried-requires : tie.Need-carried-requires
 carried-requires c κs = search needs
 
--- src/calls.rt:113:15
 give-requires : tie.Need-give-requires
 give-requires c κs = search needs
 
--- src/calls.rt:114:34
 low-requires-2 : tie.Need-low-requires-2
 low-requires-2 c κs = search needs
 
--- src/calls.rt:114:24
 shed-requires : tie.Need-shed-requires
 shed-requires c κs = search needs
 
--- src/calls.rt:114:15
 of-doing-requires-2 : tie.Need-of-doing-requires-2
 of-doing-requires-2 c κs = search needs
 
--- src/calls.rt:115:31
 stopped-requires : tie.Need-stopped-requires
 stopped-requires c κs = search needs
 
--- src/calls.rt:115:26
 flag-requires : tie.Need-flag-requires
 flag-requires c κs = search needs
 
--- src/calls.rt:115:15
 tell-requires : tie.Need-tell-requires
 tell-requires c κs = search needs
 
--- src/calls.rt:116:31
 held-requires : tie.Need-held-requires
 held-requires c κs = search needs
 
--- src/calls.rt:116:15
 tell-time-requires : tie.Need-tell-time-requires
 tell-time-requires c κs = search needs
 
--- src/calls.rt:117:30
 recheck-requires : tie.Need-recheck-requires
 recheck-requires c κs = search needs
 
--- src/calls.rt:117:14
 tell-time-requires-2 : tie.Need-tell-time-requires-2
 tell-time-requires-2 c κs = search needs
 
--- src/calls.rt:107:1
 returns : tie.Need-returns
 unfolding timeCall
 returns c = rw (key 25 (c .before .before .before .match .keys1), c .of-doing .ensures, c .before .heard .ensures, c .before .before .low .ensures)
 
--- src/calls.rt:107:1
 returns-2 : tie.Need-returns-2
 unfolding timeCall
 returns-2 c = rw (key 25 (c .before .before .match .keys2), key 26 (c .before .before .match .keys2), c .give .ensures, c .before .carried .ensures)
 
--- src/calls.rt:107:1
 returns-3 : tie.Need-returns-3
 unfolding timeCall
 returns-3 c = rw (key 25 (c .before .before .before .match .keys3), key 26 (c .before .before .before .match .keys3), key 27 (c .before .before .before .match .keys3), c .of-doing2 .ensures, c .before .shed .ensures, c .before .before .low2 .ensures)
 
--- src/calls.rt:107:1
 returns-4 : tie.Need-returns-4
 unfolding timeCall
 returns-4 c = rw (key 25 (c .before .before .before .match .keys4), key 26 (c .before .before .before .match .keys4), key 27 (c .before .before .before .match .keys4), key 28 (c .before .before .before .match .keys4), c .tell .ensures, c .before .flag .ensures, c .before .before .stopped .ensures)
 
--- src/calls.rt:107:1
 returns-5 : tie.Need-returns-5
 unfolding timeCall
 returns-5 c = rw (key 25 (c .before .before .match .keys5), key 26 (c .before .before .match .keys5), key 27 (c .before .before .match .keys5), key 28 (c .before .before .match .keys5), key 29 (c .before .before .match .keys5), c .tell-time .ensures, c .before .held .ensures)
 
--- src/calls.rt:107:1
 returns-6 : tie.Need-returns-6
 unfolding timeCall
 returns-6 c = rw (ne-eqb _ _ (c .before .before .match .rest .0 .0 .0 .0 .1), ne-eqb _ _ (c .before .before .match .rest .0 .0 .0 .1), ne-eqb _ _ (c .before .before .match .rest .0 .0 .1), ne-eqb _ _ (c .before .before .match .rest .0 .1), ne-eqb _ _ (c .before .before .match .rest .1), c .tell-time2 .ensures, c .before .recheck .ensures)

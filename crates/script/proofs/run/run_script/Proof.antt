@@ -1,3 +1,5 @@
+-- `script::run::run_script` meets its contract.
+-- Assumes nothing.
 use borrow.Author.Needs.{needs}
 use Prim.Native.Nat.{_-_, _≤_, _+_, _<_}
 use native.Mathlib.Omega.{arith}
@@ -9,13 +11,6 @@ use Rattle.octets.proofs.Fill.{filled-length}
 use Rattle.script.proofs.RunLaws.{Running, running-start, running-room, running-end, running-next, running-done, running-fits, tail-from, over-length, script-cut, script-lent, script-done}
 use Rattle.script.proofs.run.run_script.Statement.{statement}
 use Rattle.script.proofs.run.run_script.Tie as tie
-use Rattle.script.proofs.run.run_script.Reads as reads
-use Rattle.script.proofs.run.run_script.Lts as lts
-use Rattle.image.proofs.write_image.Reads as write-image-reads
-use Rattle.live.proofs.types.Liveness.new.Reads as new-reads
-use Rattle.octets.proofs.put_words.Reads as put-words-reads
-use Rattle.script.proofs.calls.call.Reads as call-reads
-use Rattle.script.proofs.run.call_from.Reads as call-from-reads
 
 abbrev Inv-loop : tie.InvT-loop
 Inv-loop script out₀ path₀ at₀ out path at = Running script out₀ out path at
@@ -23,103 +18,78 @@ Inv-loop script out₀ path₀ at₀ out path at = Running script out₀ out pat
 abbrev μ-loop : tie.MeasureT-loop
 μ-loop script out₀ path₀ at₀ out path at = length script - at
 
--- src/run.rt:28:9
 returns : tie.Need-returns Inv-loop μ-loop
 returns c = script-cut _ _ (c .if1 .taken)
 
--- src/run.rt:31:9
 returns-2 : tie.Need-returns-2 Inv-loop μ-loop
 returns-2 c = script-lent _ _ (c .before .if1 .left) (omega arith)
 
--- src/run.rt:33:8
 sub-if3 : tie.Need-sub-if3 Inv-loop μ-loop
 sub-if3 c = search needs
 
--- src/run.rt:34:9
 returns-3 : tie.Need-returns-3 Inv-loop μ-loop
 returns-3 c = script-lent _ _ (c .before .before .if1 .left) (omega arith)
 
--- src/run.rt:36:9
 new-requires : tie.Need-new-requires Inv-loop μ-loop
 new-requires c κs = search needs
 
--- src/run.rt:38:5
 loop-holds : tie.Need-loop-holds Inv-loop μ-loop
 loop-holds c = running-start (c .before .before .before .if1 .left) (omega arith) (c .new .ensures)
 
--- src/run.rt:39:27
 sub-call-from : tie.Need-sub-call-from Inv-loop μ-loop
 sub-call-from c = search needs
 
--- src/run.rt:39:27
 part-call-from-start : tie.Need-part-call-from-start Inv-loop μ-loop
 part-call-from-start c = search needs
 
--- src/run.rt:39:27
 part-call-from-end : tie.Need-part-call-from-end Inv-loop μ-loop
 part-call-from-end c = search needs
 
--- src/run.rt:39:13
 call-from-requires : tie.Need-call-from-requires Inv-loop μ-loop
 call-from-requires c κs = search needs
 
--- src/run.rt:40:13
 call-requires : tie.Need-call-requires Inv-loop μ-loop
 call-requires c κs = search needs
 
--- src/run.rt:42:27
 sub-put-words : tie.Need-sub-put-words Inv-loop μ-loop
 sub-put-words c = omega (arith, running-room (c .before .before .before .before .before .loop .inv) (c .before .before .before .before .loop-test .taken))
 
--- src/run.rt:42:27
 part-put-words-start : tie.Need-part-put-words-start Inv-loop μ-loop
 part-put-words-start c = omega (arith, running-room (c .before .before .before .before .before .loop .inv) (c .before .before .before .before .loop-test .taken))
 
--- src/run.rt:42:27
 part-put-words-end : tie.Need-part-put-words-end Inv-loop μ-loop
 part-put-words-end c = omega (arith, running-room (c .before .before .before .before .before .loop .inv) (c .before .before .before .before .loop-test .taken))
 
--- src/run.rt:42:43
 slice-aggregate-put-words : tie.Need-slice-aggregate-put-words Inv-loop μ-loop
 slice-aggregate-put-words c = search needs
 
--- src/run.rt:42:9
 put-words-requires : tie.Need-put-words-requires Inv-loop μ-loop
 put-words-requires c κs = search needs
 
--- src/run.rt:44:9
 add-at : tie.Need-add-at Inv-loop μ-loop
 add-at c = omega (arith, running-fits (c .before .before .before .before .before .before .before .before .before .before .before .loop .inv) (c .before .before .before .before .before .before .before .before .before .before .loop-test .taken), c .before .before .before .before .before .before .before .before .before .before .before .before .before .before .before .before .before .before .good .0)
 
--- src/run.rt:38:5
 loop-less : tie.Need-loop-less Inv-loop μ-loop
 loop-less c = search needs
 
--- src/run.rt:38:5
 loop-again : tie.Need-loop-again Inv-loop μ-loop
 loop-again c = running-next (c .before .before .before .before .before .before .before .before .before .before .before .loop .inv) (c .before .before .before .before .before .before .before .before .before .before .loop-test .taken) (c .before .before .before .before .before .before .before .before .call-from .ensures ∙ ap callFrom (tail-from (now (c .before .before .before .before .before .before .before .before .before .before .before .before .before .before .before .before .before .before .args .script)) (c .before .before .before .before .before .before .before .before .before .before .before .loop .at))) (c .before .before .before .before .before .before .before .call .ensures) (search needs) (c .before .before .before .put-words .ensures .1)
 
--- src/run.rt:46:24
 sub-write-image : tie.Need-sub-write-image Inv-loop μ-loop
 sub-write-image c = omega (arith, running-end (c .before .loop .inv) (c .loop-test .left))
 
--- src/run.rt:46:24
 part-write-image-start : tie.Need-part-write-image-start Inv-loop μ-loop
 part-write-image-start c = omega (arith, running-end (c .before .loop .inv) (c .loop-test .left))
 
--- src/run.rt:46:24
 part-write-image-end : tie.Need-part-write-image-end Inv-loop μ-loop
 part-write-image-end c = omega (arith, running-end (c .before .loop .inv) (c .loop-test .left))
 
--- src/run.rt:46:5
 write-image-requires : tie.Need-write-image-requires Inv-loop μ-loop
 write-image-requires c κs = search needs
 
--- src/run.rt:24:1
 same-length : tie.Need-same-length Inv-loop μ-loop
 same-length c = ap length (running-done (c .before .before .before .before .before .loop .inv) (c .before .before .before .before .loop-test .left) (c .before .before .write-image .ensures .1 .1) (c .before .before .write-image .ensures .1 .0)) ∙ over-length _ _
 
--- src/run.rt:24:1
 returns-4 : tie.Need-returns-4 Inv-loop μ-loop
 returns-4 c = script-done _ _ (c .before .before .before .before .before .before .before .before .before .if1 .left) (omega arith) (running-done (c .before .before .before .before .before .loop .inv) (c .before .before .before .before .loop-test .left) (c .before .before .write-image .ensures .1 .1) (c .before .before .write-image .ensures .1 .0))
 

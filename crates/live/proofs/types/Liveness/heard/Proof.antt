@@ -1,32 +1,25 @@
+-- `live::types::Liveness::heard` meets its contract.
+-- Assumes nothing.
 use Rattle.live.specs.Times.{heardOf}
 use borrow.Author.Tests.{lt-ltb, le-ltb, le-leb, lt-leb}
 use mathlib.Core.Path.{refl}
 use borrow.Author.Needs.{needs}
 use Rattle.live.proofs.types.Liveness.heard.Statement.{statement}
 use Rattle.live.proofs.types.Liveness.heard.Tie as tie
-use Rattle.live.proofs.types.Liveness.heard.Reads as reads
-use Rattle.live.proofs.types.Liveness.heard.Lts as lts
-use Rattle.live.proofs.times.not_done.Reads as not-done-reads
-use Rattle.std.proofs.num.wrapping_add_u32.Reads as wrapping-add-u32-reads
 
--- src/times.rt:71:13
 not-done-requires : tie.Need-not-done-requires
 not-done-requires c κs = search needs
 
--- src/times.rt:71:13
 returns : tie.Need-returns
 unfolding heardOf
 returns c = rw (lt-ltb _ _ (c .before .if1 .taken)) (c .not-done .ensures)
 
--- src/times.rt:78:21
 wrapping-add-u32-requires : tie.Need-wrapping-add-u32-requires
 wrapping-add-u32-requires c κs = search needs
 
--- src/times.rt:79:20
 wrapping-add-u32-requires-2 : tie.Need-wrapping-add-u32-requires-2
 wrapping-add-u32-requires-2 c κs = search needs
 
--- src/times.rt:66:5
 returns-2 : tie.Need-returns-2
 unfolding heardOf
 returns-2 c = rw (le-ltb _ _ (c .before .before .before .if1 .left)) (rw (c .before .wrapping-add-u32 .ensures, c .wrapping-add-u322 .ensures))

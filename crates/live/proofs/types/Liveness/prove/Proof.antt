@@ -1,46 +1,35 @@
+-- `live::types::Liveness::prove` meets its contract.
+-- Assumes nothing.
 use Rattle.live.specs.Search.{proveOf}
 use borrow.Author.Tests.{lt-ltb, le-ltb, le-leb, lt-leb}
 use mathlib.Core.Path.{refl}
 use borrow.Author.Needs.{needs}
 use Rattle.live.proofs.types.Liveness.prove.Statement.{statement}
 use Rattle.live.proofs.types.Liveness.prove.Tie as tie
-use Rattle.live.proofs.types.Liveness.prove.Reads as reads
-use Rattle.live.proofs.types.Liveness.prove.Lts as lts
-use Rattle.live.proofs.search.changed_answer.Reads as changed-answer-reads
-use Rattle.live.proofs.search.no_prove.Reads as no-prove-reads
-use Rattle.seek.proofs.search.prove.Reads as prove-reads
 
--- src/search.rt:124:13
 no-prove-requires : tie.Need-no-prove-requires
 no-prove-requires c κs = search needs
 
--- src/search.rt:124:13
 returns : tie.Need-returns
 unfolding proveOf
 returns c = rw (lt-ltb _ _ (c .before .if1 .taken)) (c .no-prove .ensures)
 
--- src/search.rt:127:13
 no-prove-requires-2 : tie.Need-no-prove-requires-2
 no-prove-requires-2 c κs = search needs
 
--- src/search.rt:127:13
 returns-2 : tie.Need-returns-2
 unfolding proveOf
 returns-2 c = rw (le-ltb _ _ (c .before .before .if1 .left)) (rw (lt-ltb _ _ (c .before .if2 .taken)) (c .no-prove2 .ensures))
 
--- src/search.rt:129:52
 cast-prove : tie.Need-cast-prove
 cast-prove c = search needs
 
--- src/search.rt:129:13
 prove-requires : tie.Need-prove-requires
 prove-requires c κs = search needs
 
--- src/search.rt:133:13
 changed-answer-requires : tie.Need-changed-answer-requires
 changed-answer-requires c κs = search needs
 
--- src/search.rt:119:5
 returns-3 : tie.Need-returns-3
 unfolding proveOf
 returns-3 c = rw (le-ltb _ _ (c .before .before .before .before .if1 .left)) (rw (le-ltb _ _ (c .before .before .before .if2 .left)) (rw (c .changed-answer .ensures, c .before .before .prove .ensures)))

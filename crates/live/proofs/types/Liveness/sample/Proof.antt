@@ -1,46 +1,36 @@
+-- `live::types::Liveness::sample` meets its contract.
+-- Assumes nothing.
 use Rattle.live.specs.Times.{sampleOf}
 use borrow.Author.Tests.{lt-ltb, le-ltb, le-leb, lt-leb}
 use mathlib.Core.Path.{refl}
 use borrow.Author.Needs.{needs}
 use Rattle.live.proofs.types.Liveness.sample.Statement.{statement}
 use Rattle.live.proofs.types.Liveness.sample.Tie as tie
-use Rattle.live.proofs.types.Liveness.sample.Reads as reads
-use Rattle.live.proofs.types.Liveness.sample.Lts as lts
-use Rattle.live.proofs.times.not_done.Reads as not-done-reads
-use Rattle.rtt.proofs.rtts.sample.Reads as sample-reads
 
--- src/times.rt:23:13
 not-done-requires : tie.Need-not-done-requires
 not-done-requires c κs = search needs
 
--- src/times.rt:23:13
 returns : tie.Need-returns
 unfolding sampleOf
 returns c = rw (le-leb _ _ (c .before .if1 .taken)) (c .not-done .ensures)
 
--- src/times.rt:26:13
 not-done-requires-2 : tie.Need-not-done-requires-2
 not-done-requires-2 c κs = search needs
 
--- src/times.rt:26:13
 returns-2 : tie.Need-returns-2
 unfolding sampleOf
 returns-2 c = rw (lt-leb _ _ (c .before .before .if1 .left)) (rw (le-leb _ _ (c .before .if2 .taken)) (c .not-done2 .ensures))
 
--- src/times.rt:29:13
 not-done-requires-3 : tie.Need-not-done-requires-3
 not-done-requires-3 c κs = search needs
 
--- src/times.rt:29:13
 returns-3 : tie.Need-returns-3
 unfolding sampleOf
 returns-3 c = rw (lt-leb _ _ (c .before .before .before .if1 .left)) (rw (lt-leb _ _ (c .before .before .if2 .left)) (rw (le-leb _ _ (c .before .if3 .taken)) (c .not-done3 .ensures)))
 
--- src/times.rt:31:13
 sample-requires : tie.Need-sample-requires
 sample-requires c κs = search needs
 
--- src/times.rt:18:5
 returns-4 : tie.Need-returns-4
 unfolding sampleOf
 returns-4 c = rw (lt-leb _ _ (c .before .before .before .if1 .left)) (rw (lt-leb _ _ (c .before .before .if2 .left)) (rw (lt-leb _ _ (c .before .if3 .left)) (rw (c .sample .ensures))))

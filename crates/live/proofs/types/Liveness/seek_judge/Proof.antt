@@ -1,42 +1,32 @@
+-- `live::types::Liveness::seek_judge` meets its contract.
+-- Assumes nothing.
 use Rattle.live.specs.Search.{seekJudgeOf}
 use borrow.Author.Tests.{lt-ltb, le-ltb, le-leb, lt-leb}
 use mathlib.Core.Path.{refl}
 use borrow.Author.Needs.{needs}
 use Rattle.live.proofs.types.Liveness.seek_judge.Statement.{statement}
 use Rattle.live.proofs.types.Liveness.seek_judge.Tie as tie
-use Rattle.live.proofs.types.Liveness.seek_judge.Reads as reads
-use Rattle.live.proofs.types.Liveness.seek_judge.Lts as lts
-use Rattle.live.proofs.search.lost_answer.Reads as lost-answer-reads
-use Rattle.live.proofs.search.no_judge.Reads as no-judge-reads
-use Rattle.seek.proofs.search.seek_judge.Reads as seek-judge-reads
 
--- src/search.rt:235:13
 no-judge-requires : tie.Need-no-judge-requires
 no-judge-requires c κs = search needs
 
--- src/search.rt:235:13
 returns : tie.Need-returns
 unfolding seekJudgeOf
 returns c = rw (le-leb _ _ (c .before .if1 .taken)) (c .no-judge .ensures)
 
--- src/search.rt:238:13
 no-judge-requires-2 : tie.Need-no-judge-requires-2
 no-judge-requires-2 c κs = search needs
 
--- src/search.rt:238:13
 returns-2 : tie.Need-returns-2
 unfolding seekJudgeOf
 returns-2 c = rw (lt-leb _ _ (c .before .before .if1 .left)) (rw (le-leb _ _ (c .before .if2 .taken)) (c .no-judge2 .ensures))
 
--- src/search.rt:242:13
 seek-judge-requires : tie.Need-seek-judge-requires
 seek-judge-requires c κs = search needs
 
--- src/search.rt:246:13
 lost-answer-requires : tie.Need-lost-answer-requires
 lost-answer-requires c κs = search needs
 
--- src/search.rt:230:5
 returns-3 : tie.Need-returns-3
 unfolding seekJudgeOf
 returns-3 c = rw (lt-leb _ _ (c .before .before .before .before .before .if1 .left)) (rw (lt-leb _ _ (c .before .before .before .before .if2 .left)) (rw (c .lost-answer .ensures, c .before .before .seek-judge .ensures)))

@@ -1,42 +1,32 @@
+-- `live::types::Liveness::seek_ring` meets its contract.
+-- Assumes nothing.
 use borrow.Author.Needs.{needs}
 use borrow.Author.Tests.{lt-ltb, le-ltb, le-leb, lt-leb}
 use mathlib.Core.Path.{refl, sym}
 use Rattle.live.specs.Search.{seekRingOf}
 use Rattle.live.proofs.types.Liveness.seek_ring.Statement.{statement}
 use Rattle.live.proofs.types.Liveness.seek_ring.Tie as tie
-use Rattle.live.proofs.types.Liveness.seek_ring.Reads as reads
-use Rattle.live.proofs.types.Liveness.seek_ring.Lts as lts
-use Rattle.live.proofs.probe.no_id.Reads as no-id-reads
-use Rattle.live.proofs.search.ring_search.Reads as ring-search-reads
-use Rattle.live.proofs.types.Liveness.send.Reads as send-reads
 
--- src/search.rt:175:13
 no-id-requires : tie.Need-no-id-requires
 no-id-requires c κs = search needs
 
--- src/search.rt:175:13
 returns : tie.Need-returns
 unfolding seekRingOf
 returns c = rw (lt-ltb _ _ (c .before .if1 .taken)) (c .no-id .ensures)
 
--- src/search.rt:179:13
 no-id-requires-2 : tie.Need-no-id-requires-2
 no-id-requires-2 c κs = search needs
 
--- src/search.rt:179:13
 returns-2 : tie.Need-returns-2
 unfolding seekRingOf
 returns-2 c = rw (le-ltb _ _ (c .before .before .if1 .left)) (rw (le-leb _ _ (c .before .if2 .taken)) (c .no-id2 .ensures))
 
--- src/search.rt:181:13
 send-requires : tie.Need-send-requires
 send-requires c κs = search needs
 
--- src/search.rt:182:9
 ring-search-requires : tie.Need-ring-search-requires
 ring-search-requires c κs = search needs
 
--- src/search.rt:170:5
 returns-3 : tie.Need-returns-3
 unfolding seekRingOf
 returns-3 c = rw (le-ltb _ _ (c .before .before .before .if1 .left)) (rw (lt-leb _ _ (c .before .before .if2 .left)) (rw (sym (c .before .send .ensures)) (c .ring-search .ensures)))

@@ -1,37 +1,29 @@
+-- `live::types::Liveness::seek_size` meets its contract.
+-- Assumes nothing.
 use Rattle.live.specs.Search.{seekSizeOf}
 use borrow.Author.Tests.{lt-ltb, le-ltb, le-leb, lt-leb}
 use mathlib.Core.Path.{refl}
 use borrow.Author.Needs.{needs}
 use Rattle.live.proofs.types.Liveness.seek_size.Statement.{statement}
 use Rattle.live.proofs.types.Liveness.seek_size.Tie as tie
-use Rattle.live.proofs.types.Liveness.seek_size.Reads as reads
-use Rattle.live.proofs.types.Liveness.seek_size.Lts as lts
-use Rattle.live.proofs.search.len_or.Reads as len-or-reads
-use Rattle.seek.proofs.search.seek_size.Reads as seek-size-reads
 
--- src/search.rt:142:13
 returns : tie.Need-returns
 unfolding seekSizeOf
 returns c = rw (lt-ltb _ _ (c .if1 .taken)) refl
 
--- src/search.rt:145:13
 returns-2 : tie.Need-returns-2
 unfolding seekSizeOf
 returns-2 c = rw (le-ltb _ _ (c .before .if1 .left)) (rw (lt-ltb _ _ (c .if2 .taken)) refl)
 
--- src/search.rt:147:55
 cast-seek-size : tie.Need-cast-seek-size
 cast-seek-size c = search needs
 
--- src/search.rt:147:13
 seek-size-requires : tie.Need-seek-size-requires
 seek-size-requires c κs = search needs
 
--- src/search.rt:149:9
 len-or-requires : tie.Need-len-or-requires
 len-or-requires c κs = search needs
 
--- src/search.rt:138:5
 returns-3 : tie.Need-returns-3
 unfolding seekSizeOf
 returns-3 c = rw (le-ltb _ _ (c .before .before .before .if1 .left)) (rw (le-ltb _ _ (c .before .before .if2 .left)) (rw (c .len-or .ensures, c .before .seek-size .ensures)))

@@ -1,3 +1,5 @@
+-- `live::types::Liveness::shed` meets its contract.
+-- Assumes nothing.
 use borrow.Author.Tests.{lt-ltb, le-ltb, le-leb, lt-leb}
 use mathlib.Core.Path.{refl, sym}
 use Rattle.live.proofs.TrafficLaws.{less-is}
@@ -5,29 +7,20 @@ use Rattle.live.specs.Times.{shedOf}
 use borrow.Author.Needs.{needs}
 use Rattle.live.proofs.types.Liveness.shed.Statement.{statement}
 use Rattle.live.proofs.types.Liveness.shed.Tie as tie
-use Rattle.live.proofs.types.Liveness.shed.Reads as reads
-use Rattle.live.proofs.types.Liveness.shed.Lts as lts
-use Rattle.live.proofs.times.not_done.Reads as not-done-reads
-use Rattle.std.proofs.num.wrapping_sub_u32.Reads as wrapping-sub-u32-reads
 
--- src/times.rt:110:13
 not-done-requires : tie.Need-not-done-requires
 not-done-requires c κs = search needs
 
--- src/times.rt:110:13
 returns : tie.Need-returns
 unfolding shedOf
 returns c = rw (lt-ltb _ _ (c .before .if1 .taken)) (c .not-done .ensures)
 
--- src/times.rt:118:21
 wrapping-sub-u32-requires : tie.Need-wrapping-sub-u32-requires
 wrapping-sub-u32-requires c κs = search needs
 
--- src/times.rt:119:20
 wrapping-sub-u32-requires-2 : tie.Need-wrapping-sub-u32-requires-2
 wrapping-sub-u32-requires-2 c κs = search needs
 
--- src/times.rt:105:5
 returns-2 : tie.Need-returns-2
 unfolding shedOf
 returns-2 c = rw (le-ltb _ _ (c .before .before .before .if1 .left)) (rw (less-is _ _ _ (search needs) (search needs) (c .before .wrapping-sub-u32 .ensures), less-is _ _ _ (search needs) (search needs) (c .wrapping-sub-u322 .ensures)))

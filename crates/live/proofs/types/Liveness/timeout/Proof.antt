@@ -1,33 +1,26 @@
+-- `live::types::Liveness::timeout` meets its contract.
+-- Assumes nothing.
 use Rattle.live.specs.Times.{timeoutOf}
 use borrow.Author.Tests.{lt-ltb, le-ltb, le-leb, lt-leb}
 use mathlib.Core.Path.{refl}
 use borrow.Author.Needs.{needs}
 use Rattle.live.proofs.types.Liveness.timeout.Statement.{statement}
 use Rattle.live.proofs.types.Liveness.timeout.Tie as tie
-use Rattle.live.proofs.types.Liveness.timeout.Reads as reads
-use Rattle.live.proofs.types.Liveness.timeout.Lts as lts
-use Rattle.rtt.proofs.times.timeout.Reads as timeout-reads
-use Rattle.rtt.proofs.window.max_rtt.Reads as max-rtt-reads
 
--- src/times.rt:53:13
 returns : tie.Need-returns
 unfolding timeoutOf
 returns c = rw (le-leb _ _ (c .if1 .taken)) refl
 
--- src/times.rt:56:13
 returns-2 : tie.Need-returns-2
 unfolding timeoutOf
 returns-2 c = rw (lt-leb _ _ (c .before .if1 .left)) (rw (le-leb _ _ (c .if2 .taken)) refl)
 
--- src/times.rt:61:13
 max-rtt-requires : tie.Need-max-rtt-requires
 max-rtt-requires c κs = search needs
 
--- src/times.rt:62:26
 timeout-requires : tie.Need-timeout-requires
 timeout-requires c κs = search needs
 
--- src/times.rt:49:5
 returns-3 : tie.Need-returns-3
 unfolding timeoutOf
 returns-3 c = rw (lt-leb _ _ (c .before .before .before .before .before .if1 .left)) (rw (lt-leb _ _ (c .before .before .before .before .if2 .left)) (rw (c .timeout .ensures, c .before .max-rtt .ensures)))
