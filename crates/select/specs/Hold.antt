@@ -38,19 +38,27 @@ heldIf on = pick on answers.Held answers.Free
 abbrev pub eitherLong : Rival → Rival → Bool
 eitherLong to from = isLong to || isLong from
 
+-- `from` has a score over the horizon, and `to` is neither faster nor beats it
+abbrev pub staysOf : Rival → Rival → Float → Bool
+staysOf to from margin = from .steadied && (not (fasterOf to from margin) && not (beatsOf to from margin))
+
+-- the score of `to` is above margin times that of `from` over the horizon
+abbrev pub aboveOf : Rival → Rival → Float → Bool
+aboveOf to from margin = (from .steadied && to .scored) && lt (mul binary64 (from .steady) margin) (to .score)
+
 -- `held`: a change on score waits while `from` has a score over the horizon and `to` is neither faster nor beats it
 unfoldable pub heldOf : Rival → Rival → Float → HeldAnswer
 heldOf to from margin =
     pick (eitherLong to from)
     (answers.Refused Duration)
-    (heldIf (from .steadied && (not (fasterOf to from margin) && not (beatsOf to from margin))))
+    (heldIf (staysOf to from margin))
 
 -- `waits`: a change for a quicker medium waits while the score of `to` is above margin times that of `from` over the horizon
 unfoldable pub waitsOf : Rival → Rival → Float → HeldAnswer
 waitsOf to from margin =
     pick (eitherLong to from)
     (answers.Refused Duration)
-    (heldIf ((from .steadied && to .scored) && lt (mul binary64 (from .steady) margin) (to .score)))
+    (heldIf (aboveOf to from margin))
 
 -- a report of 2 is owed
 abbrev pub newHold : Float → ℕ → Hold

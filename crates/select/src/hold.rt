@@ -1,6 +1,7 @@
 // What holds a change of the active path, and the hold on the link's cost after one.
 ghost use mathlib.Core.Path.{_≡_};
-ghost use Rattle.select.specs.Hold.{keptOf, fasterOf, beatsOf, heldOf, waitsOf, newHold, reportOf, holdsOf, costOf};
+ghost use Prim.Native.Nat.{_-_};
+ghost use Rattle.select.specs.Hold.{keptOf, fasterOf, beatsOf, staysOf, aboveOf, eitherLong, heldOf, waitsOf, newHold, reportOf, holdsOf, costOf};
 use crate::types::*;
 use base::types::Refusal;
 
@@ -27,14 +28,35 @@ fn beats(to: Rival, from: Rival, margin: f64) -> bool
     to.scored & (from.steady > to.score * margin)
 }
 
+// Whether `to` neither is faster than `from`, which has a score over the horizon, nor beats it.
+fn stays(to: Rival, from: Rival, margin: f64) -> bool
+    ensures { λ k. ⌜ k ≡ staysOf to from margin ⌝ }
+{
+    from.steadied & (!faster(to, from, margin) & !beats(to, from, margin))
+}
+
+// Whether the score of `to` is outside the margin of that of `from` over the horizon.
+fn above(to: Rival, from: Rival, margin: f64) -> bool
+    ensures { λ k. ⌜ k ≡ aboveOf to from margin ⌝ }
+{
+    (from.steadied & to.scored) & (to.score > from.steady * margin)
+}
+
+// Whether either has a round trip of 2^62 or more.
+fn either_long(to: Rival, from: Rival) -> bool
+    ensures { λ k. ⌜ k ≡ eitherLong to from ⌝ }
+{
+    crate::gate::long(to) | crate::gate::long(from)
+}
+
 // Whether a change on score from the active path `from` to `to` is held.
 pub fn held(to: Rival, from: Rival, margin: f64) -> HeldAnswer
     ensures { λ k. ⌜ k ≡ heldOf to from margin ⌝ }
 {
-    if crate::gate::long(to) | crate::gate::long(from) {
+    if either_long(to, from) {
         return HeldAnswer::Refused(Refusal::Duration);
     }
-    if from.steadied & (!faster(to, from, margin) & !beats(to, from, margin)) {
+    if stays(to, from, margin) {
         return HeldAnswer::Held;
     }
     HeldAnswer::Free
@@ -44,13 +66,27 @@ pub fn held(to: Rival, from: Rival, margin: f64) -> HeldAnswer
 pub fn waits(to: Rival, from: Rival, margin: f64) -> HeldAnswer
     ensures { λ k. ⌜ k ≡ waitsOf to from margin ⌝ }
 {
-    if crate::gate::long(to) | crate::gate::long(from) {
+    if either_long(to, from) {
         return HeldAnswer::Refused(Refusal::Duration);
     }
-    if (from.steadied & to.scored) & (to.score > from.steady * margin) {
+    if above(to, from, margin) {
         return HeldAnswer::Held;
     }
     HeldAnswer::Free
+}
+
+// One less, and 0 of none.
+fn less_one(owed: u8) -> u8
+    ensures { λ r. ⌜ r ≡ owed - 1 ⌝ }
+{
+    if owed < 1 { 0 } else { owed - 1 }
+}
+
+// Whether a hold holds: before the dwell has passed, or while a report is owed.
+fn holds(h: Hold, now: u64, dwell: u64) -> bool
+    ensures { λ r. ⌜ r ≡ holdsOf h now dwell ⌝ }
+{
+    (now < base::time::deadline(h.at, dwell)) | (0 < h.owed)
 }
 
 impl Hold {
@@ -72,7 +108,7 @@ impl Hold {
     pub fn report(self) -> Self
         ensures { λ h. ⌜ h ≡ reportOf self ⌝ }
     {
-        let owed = if self.owed == 0 { 0 } else { self.owed - 1 };
+        let owed = less_one(self.owed);
         Hold {
             cost: self.cost,
             at: self.at,
@@ -87,7 +123,7 @@ impl Hold {
         if 0x4000_0000_0000_0000 <= dwell {
             return CostAnswer::Refused(Refusal::Duration);
         }
-        if (now < base::time::deadline(self.at, dwell)) | (0 < self.owed) {
+        if holds(self, now, dwell) {
             return CostAnswer::Cost(self.cost);
         }
         CostAnswer::Over

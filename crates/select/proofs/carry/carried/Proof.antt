@@ -1,50 +1,46 @@
+-- `select::carry::carried` meets its contract.
+-- Assumes nothing.
+use borrow.Author.Tests.{lt-ltb, le-ltb}
+use mathlib.Core.Path.{sym, _∙_}
+use Rattle.select.specs.Carried.{carriedOf}
 use borrow.Author.Needs.{needs}
 use Rattle.select.proofs.carry.carried.Statement.{statement}
 use Rattle.select.proofs.carry.carried.Tie as tie
-use Rattle.select.proofs.carry.carried.Reads as reads
-use Rattle.select.proofs.carry.carried.Lts as lts
-use Rattle.select.proofs.carry.heeded.Reads as heeded-reads
-use Rattle.select.proofs.carry.shorter.Reads as shorter-reads
 
--- src/carry.rt:27:9
 returns : tie.Need-returns
-returns c = ?
+unfolding carriedOf
+returns c = simp (lt-ltb _ _ (c .if1 .taken))
 
--- src/carry.rt:30:28
 enum-told : tie.Need-enum-told
 enum-told c = search needs
 
--- src/carry.rt:31:25
 enum-known-proven : tie.Need-enum-known-proven
 enum-known-proven c = search needs
 
--- src/carry.rt:33:17
 returns-2 : tie.Need-returns-2
-returns-2 c = ?
+unfolding carriedOf
+returns-2 c = simp (le-ltb _ _ (c .before .before .before .before .if1 .left), c .before .before .proven .given .1, lt-ltb _ _ (c .if2 .taken))
 
--- src/carry.rt:35:16
 heeded-requires : tie.Need-heeded-requires
 heeded-requires c κs = search needs
 
--- src/carry.rt:36:55
 add-shorter : tie.Need-add-shorter
 add-shorter c = search needs
 
--- src/carry.rt:36:41
 shorter-requires : tie.Need-shorter-requires
 shorter-requires c κs = search needs
 
--- src/carry.rt:36:17
 returns-3 : tie.Need-returns-3
-returns-3 c = ?
+unfolding carriedOf
+returns-3 c = simp (le-ltb _ _ (c .before .before .before .before .before .before .before .if1 .left), c .before .before .before .before .before .proven .given .1, le-ltb _ _ (c .before .before .before .if2 .left), sym (c .before .before .heeded .ensures) ∙ c .before .if3 .taken, c .shorter .ensures)
 
--- src/carry.rt:23:1
 returns-4 : tie.Need-returns-4
-returns-4 c = ?
+unfolding carriedOf
+returns-4 c = simp (le-ltb _ _ (c .before .before .if1 .left), c .enum-told .given .1)
 
--- src/carry.rt:23:1
 returns-5 : tie.Need-returns-5
-returns-5 c = ?
+unfolding carriedOf
+returns-5 c = simp (le-ltb _ _ (c .before .before .before .before .before .before .if1 .left), c .before .before .before .before .proven .given .1, le-ltb _ _ (c .before .before .if2 .left), sym (c .before .heeded .ensures) ∙ c .if3 .left)
 
 pub carried-spec : {M : Type 1} → statement M
 carried-spec =

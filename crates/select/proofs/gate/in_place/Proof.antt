@@ -1,50 +1,45 @@
+-- `select::gate::in_place` meets its contract: one pass tries each place. The measure is the places left.
+-- Assumes nothing.
+use Prim.Native.Nat.{_-_}
+use mathlib.Core.Path.{sym, _∙_}
+use borrow.Author.Tests.{not-true, not-false}
+use Rattle.select.proofs.PlaceLaws.{Placing, placing-start, placing-not, placing-next, placing-end}
+use borrow.Author.Needs.{needs}
 use Rattle.select.proofs.gate.in_place.Statement.{statement}
 use Rattle.select.proofs.gate.in_place.Tie as tie
-use Rattle.select.proofs.gate.in_place.Reads as reads
-use Rattle.select.proofs.gate.in_place.Lts as lts
-use Rattle.select.proofs.gate.at_place.Reads as at-place-reads
 
 abbrev Inv-loop : tie.InvT-loop
-Inv-loop field i₀ i = ?
+Inv-loop field i₀ i = Placing field 8 i
 
 abbrev μ-loop : tie.MeasureT-loop
-μ-loop field i₀ i = ?
+μ-loop field i₀ i = 8 - i
 
--- src/gate.rt:68:5
 loop-holds : tie.Need-loop-holds Inv-loop μ-loop
-loop-holds c = ?
+loop-holds c = placing-start (search needs)
 
--- src/gate.rt:69:17
 mul-r : tie.Need-mul-r Inv-loop μ-loop
-mul-r c = ?
+mul-r c = search needs
 
--- src/gate.rt:69:17
 array-copy-out-r : tie.Need-array-copy-out-r Inv-loop μ-loop
-array-copy-out-r c = ?
+array-copy-out-r c = search needs
 
--- src/gate.rt:70:13
 at-place-requires : tie.Need-at-place-requires Inv-loop μ-loop
-at-place-requires c κs = ?
+at-place-requires c κs = search needs
 
--- src/gate.rt:71:13
 returns : tie.Need-returns Inv-loop μ-loop
-returns c = ?
+returns c = placing-not _ (c .before .before .before .before .loop .inv) (search needs) (sym (c .before .at-place .ensures) ∙ not-true _ (c .if1 .taken))
 
--- src/gate.rt:73:9
 add-i : tie.Need-add-i Inv-loop μ-loop
-add-i c = ?
+add-i c = search needs
 
--- src/gate.rt:68:5
 loop-less : tie.Need-loop-less Inv-loop μ-loop
-loop-less c = ?
+loop-less c = search needs
 
--- src/gate.rt:68:5
 loop-again : tie.Need-loop-again Inv-loop μ-loop
-loop-again c = ?
+loop-again c = placing-next _ (c .before .before .before .before .loop .inv) (search needs) (sym (c .before .at-place .ensures) ∙ not-false _ (c .if1 .left))
 
--- src/gate.rt:64:1
 returns-2 : tie.Need-returns-2 Inv-loop μ-loop
-returns-2 c = ?
+returns-2 c = placing-end (c .before .loop .inv) (search needs)
 
 pub in-place-spec : {M : Type 1} → statement M
 in-place-spec =

@@ -1,50 +1,46 @@
+-- `select::gate::none` meets its contract: one pass asks each rival. The measure is the places left.
+-- Assumes nothing.
+use Prim.Native.Nat.{_-_}
+use mathlib.Core.Path.{ap, sym, _∙_}
+use mathlib.Core.Bool.{not}
+use Rattle.base.proofs.SeqLaws.{Passed, passed-start, passed-not, passed-next, passed-end}
+use Rattle.select.specs.Scans.{lacksOf}
+use borrow.Author.Needs.{needs}
 use Rattle.select.proofs.gate.none.Statement.{statement}
 use Rattle.select.proofs.gate.none.Tie as tie
-use Rattle.select.proofs.gate.none.Reads as reads
-use Rattle.select.proofs.gate.none.Lts as lts
-use Rattle.select.proofs.gate.asks.Reads as asks-reads
 
 abbrev Inv-loop : tie.InvT-loop
-Inv-loop t field i₀ i = ?
+Inv-loop t field i₀ i = Passed (lacksOf t) field 8 i
 
 abbrev μ-loop : tie.MeasureT-loop
-μ-loop t field i₀ i = ?
+μ-loop t field i₀ i = 8 - i
 
--- src/gate.rt:46:5
 loop-holds : tie.Need-loop-holds Inv-loop μ-loop
-loop-holds c = ?
+loop-holds c = passed-start (search needs)
 
--- src/gate.rt:47:17
 mul-r : tie.Need-mul-r Inv-loop μ-loop
-mul-r c = ?
+mul-r c = search needs
 
--- src/gate.rt:47:17
 array-copy-out-r : tie.Need-array-copy-out-r Inv-loop μ-loop
-array-copy-out-r c = ?
+array-copy-out-r c = search needs
 
--- src/gate.rt:48:12
 asks-requires : tie.Need-asks-requires Inv-loop μ-loop
-asks-requires c κs = ?
+asks-requires c κs = search needs
 
--- src/gate.rt:49:13
 returns : tie.Need-returns Inv-loop μ-loop
-returns c = ?
+returns c = passed-not _ (c .before .before .before .before .loop .inv) (search needs) (ap not (sym (c .before .asks .ensures) ∙ c .if1 .taken))
 
--- src/gate.rt:51:9
 add-i : tie.Need-add-i Inv-loop μ-loop
-add-i c = ?
+add-i c = search needs
 
--- src/gate.rt:46:5
 loop-less : tie.Need-loop-less Inv-loop μ-loop
-loop-less c = ?
+loop-less c = search needs
 
--- src/gate.rt:46:5
 loop-again : tie.Need-loop-again Inv-loop μ-loop
-loop-again c = ?
+loop-again c = passed-next _ (c .before .before .before .before .loop .inv) (search needs) (ap not (sym (c .before .asks .ensures) ∙ c .if1 .left))
 
--- src/gate.rt:42:1
 returns-2 : tie.Need-returns-2 Inv-loop μ-loop
-returns-2 c = ?
+returns-2 c = passed-end (c .before .loop .inv) (search needs)
 
 pub none-spec : {M : Type 1} → statement M
 none-spec =

@@ -1,59 +1,52 @@
+-- `select::gate::top_tier` meets its contract: the loop folds the tiers. The measure is the places left.
+-- Assumes nothing.
+use Prim.Native.Nat.{_-_, max}
+use mathlib.Core.Path.{sym, _∙_}
+use Rattle.base.proofs.ScanLaws.{Folding, folding-start, folding-take, folding-skip, folding-end}
+use Rattle.select.specs.Scans.{isNamed}
+use Rattle.select.specs.declared.types.Rival.{Rival}
+use borrow.Author.Needs.{needs}
 use Rattle.select.proofs.gate.top_tier.Statement.{statement}
 use Rattle.select.proofs.gate.top_tier.Tie as tie
-use Rattle.select.proofs.gate.top_tier.Reads as reads
-use Rattle.select.proofs.gate.top_tier.Lts as lts
-use Rattle.select.proofs.gate.higher.Reads as higher-reads
-use Rattle.select.proofs.gate.named.Reads as named-reads
 
 abbrev Inv-loop : tie.InvT-loop
-Inv-loop pinned field top₀ i₀ top i = ?
+Inv-loop pinned field top₀ i₀ top i = Folding (isNamed pinned) (λ (r : Rival). r .tier) max 0 field 8 top i
 
 abbrev μ-loop : tie.MeasureT-loop
-μ-loop pinned field top₀ i₀ top i = ?
+μ-loop pinned field top₀ i₀ top i = 8 - i
 
--- src/gate.rt:91:5
 loop-holds : tie.Need-loop-holds Inv-loop μ-loop
-loop-holds c = ?
+loop-holds c = folding-start (search needs)
 
--- src/gate.rt:92:17
 mul-r : tie.Need-mul-r Inv-loop μ-loop
-mul-r c = ?
+mul-r c = search needs
 
--- src/gate.rt:92:17
 array-copy-out-r : tie.Need-array-copy-out-r Inv-loop μ-loop
-array-copy-out-r c = ?
+array-copy-out-r c = search needs
 
--- src/gate.rt:93:9
 add-i : tie.Need-add-i Inv-loop μ-loop
-add-i c = ?
+add-i c = search needs
 
--- src/gate.rt:94:12
 named-requires : tie.Need-named-requires Inv-loop μ-loop
-named-requires c κs = ?
+named-requires c κs = search needs
 
--- src/gate.rt:95:13
 higher-requires : tie.Need-higher-requires Inv-loop μ-loop
-higher-requires c κs = ?
+higher-requires c κs = search needs
 
--- src/gate.rt:91:5
 loop-less : tie.Need-loop-less Inv-loop μ-loop
-loop-less c = ?
+loop-less c = search needs
 
--- src/gate.rt:91:5
 loop-again : tie.Need-loop-again Inv-loop μ-loop
-loop-again c = ?
+loop-again c = folding-take _ (c .before .before .before .before .before .loop .inv) (search needs) (sym (c .before .before .named .ensures) ∙ c .before .if1 .taken) (c .higher .ensures)
 
--- src/gate.rt:91:5
 loop-less-2 : tie.Need-loop-less-2 Inv-loop μ-loop
-loop-less-2 c = ?
+loop-less-2 c = search needs
 
--- src/gate.rt:91:5
 loop-again-2 : tie.Need-loop-again-2 Inv-loop μ-loop
-loop-again-2 c = ?
+loop-again-2 c = folding-skip _ (c .before .before .before .before .loop .inv) (search needs) (sym (c .before .named .ensures) ∙ c .if1 .left)
 
--- src/gate.rt:86:1
 returns : tie.Need-returns Inv-loop μ-loop
-returns c = ?
+returns c = folding-end (c .before .loop .inv) (search needs)
 
 pub top-tier-spec : {M : Type 1} → statement M
 top-tier-spec =

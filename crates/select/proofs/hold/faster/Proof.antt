@@ -5,11 +5,11 @@ use Rattle.select.proofs.hold.faster.Reads as reads
 use Rattle.select.proofs.hold.faster.Lts as lts
 use Rattle.select.proofs.hold.kept.Reads as kept-reads
 
--- src/hold.rt:20:6
+-- src/hold.rt:21:6
 kept-requires : tie.Need-kept-requires
 kept-requires c κs = search needs
 
--- src/hold.rt:17:1
+-- src/hold.rt:18:1
 returns : tie.Need-returns
 returns c = ?
 

@@ -5,11 +5,11 @@ use Rattle.select.proofs.hold.kept.Reads as reads
 use Rattle.select.proofs.hold.kept.Lts as lts
 use Rattle.select.proofs.media.quicker.Reads as quicker-reads
 
--- src/hold.rt:13:5
+-- src/hold.rt:14:5
 quicker-requires : tie.Need-quicker-requires
 quicker-requires c κs = search needs
 
--- src/hold.rt:8:1
+-- src/hold.rt:9:1
 returns : tie.Need-returns
 returns c = ?
 

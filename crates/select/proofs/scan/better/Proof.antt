@@ -1,33 +1,27 @@
+-- `select::scan::better` meets its contract.
+-- Assumes nothing.
+use mathlib.Core.Path.{sym, _∙_}
 use borrow.Author.Needs.{needs}
 use Rattle.select.proofs.scan.better.Statement.{statement}
 use Rattle.select.proofs.scan.better.Tie as tie
-use Rattle.select.proofs.scan.better.Reads as reads
-use Rattle.select.proofs.scan.better.Lts as lts
-use Rattle.select.proofs.scan.before.Reads as before-reads
 
--- src/scan.rt:68:29
 enum-told : tie.Need-enum-told
 enum-told c = search needs
 
--- src/scan.rt:69:26
 enum-known-f : tie.Need-enum-known-f
 enum-known-f c = search needs
 
--- src/scan.rt:70:16
 before-requires : tie.Need-before-requires
 before-requires c κs = search needs
 
--- src/scan.rt:71:17
 returns : tie.Need-returns
-returns c = ?
+returns c = simp (c .before .before .before .f .given .1, sym (c .before .before2 .ensures) ∙ c .if1 .taken)
 
--- src/scan.rt:64:1
 returns-2 : tie.Need-returns-2
-returns-2 c = ?
+returns-2 c = simp (c .enum-told .given .1)
 
--- src/scan.rt:64:1
 returns-3 : tie.Need-returns-3
-returns-3 c = ?
+returns-3 c = simp (c .before .before .before .f .given .1, sym (c .before .before2 .ensures) ∙ c .if1 .left)
 
 pub better-spec : {M : Type 1} → statement M
 better-spec =

@@ -1,59 +1,54 @@
+-- `select::scan::least` meets its contract: the loop folds what it takes. The measure is the places left.
+-- Assumes nothing.
+use Prim.Native.Nat.{_-_}
+use mathlib.Core.Path.{sym, _∙_}
+use Rattle.base.proofs.ScanLaws.{Folding, folding-start, folding-take, folding-skip, folding-end}
+use Rattle.select.specs.Scans.{takesOf, betterIn}
+use Rattle.select.specs.declared.types.Rival.{Rival}
+use Rattle.select.specs.declared.types.MaybeRival.the-variants.{None}
+use Rattle.select.proofs.PlaceLaws.{map-same}
+use borrow.Author.Needs.{needs}
 use Rattle.select.proofs.scan.least.Statement.{statement}
 use Rattle.select.proofs.scan.least.Tie as tie
-use Rattle.select.proofs.scan.least.Reads as reads
-use Rattle.select.proofs.scan.least.Lts as lts
-use Rattle.select.proofs.scan.better.Reads as better-reads
-use Rattle.select.proofs.scan.takes.Reads as takes-reads
 
 abbrev Inv-loop : tie.InvT-loop
-Inv-loop w field f₀ i₀ f i = ?
+Inv-loop w field f₀ i₀ f i = Folding (takesOf w) (λ (r : Rival). r) (betterIn w) None field 8 f i
 
 abbrev μ-loop : tie.MeasureT-loop
-μ-loop w field f₀ i₀ f i = ?
+μ-loop w field f₀ i₀ f i = 8 - i
 
--- src/scan.rt:84:5
 loop-holds : tie.Need-loop-holds Inv-loop μ-loop
-loop-holds c = ?
+loop-holds c = folding-start (search needs)
 
--- src/scan.rt:85:17
 mul-r : tie.Need-mul-r Inv-loop μ-loop
-mul-r c = ?
+mul-r c = search needs
 
--- src/scan.rt:85:17
 array-copy-out-r : tie.Need-array-copy-out-r Inv-loop μ-loop
-array-copy-out-r c = ?
+array-copy-out-r c = search needs
 
--- src/scan.rt:86:9
 add-i : tie.Need-add-i Inv-loop μ-loop
-add-i c = ?
+add-i c = search needs
 
--- src/scan.rt:87:12
 takes-requires : tie.Need-takes-requires Inv-loop μ-loop
-takes-requires c κs = ?
+takes-requires c κs = search needs
 
--- src/scan.rt:88:13
 better-requires : tie.Need-better-requires Inv-loop μ-loop
-better-requires c κs = ?
+better-requires c κs = search needs
 
--- src/scan.rt:84:5
 loop-less : tie.Need-loop-less Inv-loop μ-loop
-loop-less c = ?
+loop-less c = search needs
 
--- src/scan.rt:84:5
 loop-again : tie.Need-loop-again Inv-loop μ-loop
-loop-again c = ?
+loop-again c = folding-take _ (c .before .before .before .before .before .loop .inv) (search needs) (sym (c .before .before .takes .ensures) ∙ c .before .if1 .taken) (c .better .ensures)
 
--- src/scan.rt:84:5
 loop-less-2 : tie.Need-loop-less-2 Inv-loop μ-loop
-loop-less-2 c = ?
+loop-less-2 c = search needs
 
--- src/scan.rt:84:5
 loop-again-2 : tie.Need-loop-again-2 Inv-loop μ-loop
-loop-again-2 c = ?
+loop-again-2 c = folding-skip _ (c .before .before .before .before .loop .inv) (search needs) (sym (c .before .takes .ensures) ∙ c .if1 .left)
 
--- src/scan.rt:79:1
 returns : tie.Need-returns Inv-loop μ-loop
-returns c = ?
+returns c = rw map-same at (folding-end (c .before .loop .inv) (search needs))
 
 pub least-spec : {M : Type 1} → statement M
 least-spec =

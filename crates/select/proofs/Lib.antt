@@ -1,0 +1,2 @@
+-- What the proofs of the functions share, and the laws of the choice.
+mod PlaceLaws
