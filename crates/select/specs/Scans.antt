@@ -23,13 +23,13 @@ isNamed pinned r = r .held && (r .pinned || not pinned)
 
 -- a ranked rival
 abbrev pub isRanked : Gate → Rival → Bool
-isRanked g r = isNamed (g .pinned) r && (eqb (r .tier) (g .top) && (r .fits || not (g .fit)))
+isRanked g r = (isNamed (g .pinned) r && eqb (r .tier) (g .top)) && (r .fits || not (g .fit))
 
 -- what a test asks for: a round trip that is too long, a pin, and in the highest tier that the rival fits
 abbrev pub asksOf : Test → Rival → Bool
 asksOf test.Long r = r .held && isLong r
 asksOf test.Pinned r = r .held && r .pinned
-asksOf (test.Fits pinned top) r = isNamed pinned r && (eqb (r .tier) top && r .fits)
+asksOf (test.Fits pinned top) r = (isNamed pinned r && eqb (r .tier) top) && r .fits
 
 -- and that a rival does not have
 abbrev pub lacksOf : Test → Rival → Bool
@@ -52,17 +52,17 @@ gateOf l =
 -- the ranked that a scan takes
 abbrev pub takesOf : Want → Rival → Bool
 takesOf (want.Scored g) r = isRanked g r && r .scored
-takesOf (want.Preferred g limit) r = isRanked g r && (r .scored && (le (r .score) limit && r .preferred))
+takesOf (want.Preferred g limit) r = ((isRanked g r && r .scored) && le (r .score) limit) && r .preferred
 takesOf (want.Quicker g limit only m) r =
-    isRanked g r && (r .scored && (le (r .score) limit && ((r .preferred || not only) && quickerOf (r .medium) m)))
+    (((isRanked g r && r .scored) && le (r .score) limit) && (r .preferred || not only)) && quickerOf (r .medium) m
 takesOf (want.Timed g) r = isRanked g r
 
 -- the order of a scan
 abbrev pub beforeOf : Want → Rival → Rival → Bool
-beforeOf (want.Scored g) a b = byScore a b
-beforeOf (want.Preferred g limit) a b = byScore a b
-beforeOf (want.Quicker g limit only m) a b = byMedium a b
-beforeOf (want.Timed g) a b = byTrip a b
+beforeOf (want.Scored g) = byScore
+beforeOf (want.Preferred g limit) = byScore
+beforeOf (want.Quicker g limit only m) = byMedium
+beforeOf (want.Timed g) = byTrip
 
 -- the better of what a scan has found and one more
 abbrev pub betterIn : Want → MaybeRival → Rival → MaybeRival

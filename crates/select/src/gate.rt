@@ -24,7 +24,7 @@ fn named(pinned: bool, r: Rival) -> bool
 pub fn ranks(g: Gate, r: Rival) -> bool
     ensures { λ k. ⌜ k ≡ isRanked g r ⌝ }
 {
-    named(g.pinned, r) & ((r.tier == g.top) & (r.fits | !g.fit))
+    (named(g.pinned, r) & (r.tier == g.top)) & (r.fits | !g.fit)
 }
 
 // Whether a rival has what a test asks for.
@@ -34,7 +34,7 @@ fn asks(t: Test, r: Rival) -> bool
     match t {
         Test::Long => r.held & long(r),
         Test::Pinned => r.held & r.pinned,
-        Test::Fits(pinned, top) => named(pinned, r) & ((r.tier == top) & r.fits),
+        Test::Fits(pinned, top) => (named(pinned, r) & (r.tier == top)) & r.fits,
     }
 }
 

@@ -1,52 +1,41 @@
+-- `select::choice::best` meets its contract: its branches are the definition's.
+-- Assumes nothing.
+use mathlib.Core.Path.{sym, _∙_}
+use borrow.Author.Tests.{not-true, not-false}
+use Rattle.select.proofs.PickLaws.{best-long, best-index, best-score}
 use borrow.Author.Needs.{needs}
 use Rattle.select.proofs.choice.best.Statement.{statement}
 use Rattle.select.proofs.choice.best.Tie as tie
-use Rattle.select.proofs.choice.best.Reads as reads
-use Rattle.select.proofs.choice.best.Lts as lts
-use Rattle.select.proofs.gate.gate_of.Reads as gate-of-reads
-use Rattle.select.proofs.gate.in_place.Reads as in-place-reads
-use Rattle.select.proofs.gate.none.Reads as none-reads
-use Rattle.select.proofs.scan.least.Reads as least-reads
 
--- src/choice.rt:62:9
 none-requires : tie.Need-none-requires
 none-requires c κs = search needs
 
--- src/choice.rt:63:9
 returns : tie.Need-returns
-returns c = ?
+returns c = best-long (c .before .before .args .field) (sym (c .before .none .ensures) ∙ not-true _ (c .if1 .taken))
 
--- src/choice.rt:65:9
 in-place-requires : tie.Need-in-place-requires
 in-place-requires c κs = search needs
 
--- src/choice.rt:66:9
 returns-2 : tie.Need-returns-2
-returns-2 c = ?
+returns-2 c = best-index (c .before .before .before .before .args .field) (sym (c .before .before .before .none .ensures) ∙ not-false _ (c .before .before .if1 .left)) (sym (c .before .in-place .ensures) ∙ not-true _ (c .if2 .taken))
 
--- src/choice.rt:68:9
 gate-of-requires : tie.Need-gate-of-requires
 gate-of-requires c κs = search needs
 
--- src/choice.rt:69:11
 least-requires : tie.Need-least-requires
 least-requires c κs = search needs
 
--- src/choice.rt:70:26
 enum-known-r : tie.Need-enum-known-r
 enum-known-r c = search needs
 
--- src/choice.rt:71:29
 enum-told : tie.Need-enum-told
 enum-told c = search needs
 
--- src/choice.rt:59:1
 returns-3 : tie.Need-returns-3
-returns-3 c = ?
+returns-3 c = best-score (c .before .before .before .before .before .before .before .before .before .args .field) (sym (c .before .before .before .before .before .before .before .before .none .ensures) ∙ not-false _ (c .before .before .before .before .before .before .before .if1 .left)) (sym (c .before .before .before .before .before .before .in-place .ensures) ∙ not-false _ (c .before .before .before .before .before .if2 .left)) (c .before .before .before .before .gate-of .ensures) (c .before .before .before .least .ensures) (c .before .r .given .1)
 
--- src/choice.rt:59:1
 returns-4 : tie.Need-returns-4
-returns-4 c = ?
+returns-4 c = best-score (c .before .before .before .before .before .before .before .before .args .field) (sym (c .before .before .before .before .before .before .before .none .ensures) ∙ not-false _ (c .before .before .before .before .before .before .if1 .left)) (sym (c .before .before .before .before .before .in-place .ensures) ∙ not-false _ (c .before .before .before .before .if2 .left)) (c .before .before .before .gate-of .ensures) (c .before .before .least .ensures) (c .enum-told .given .1)
 
 pub best-spec : {M : Type 1} → statement M
 best-spec =

@@ -1,7 +1,9 @@
 -- `select::scan::least` meets its contract: the loop folds what it takes. The measure is the places left.
 -- Assumes nothing.
 use Prim.Native.Nat.{_-_}
-use mathlib.Core.Path.{sym, _∙_}
+use mathlib.Core.Path.{ap, sym, _∙_}
+use mathlib.Core.List.{List, foldl}
+use Rattle.base.specs.Seq.{keep}
 use Rattle.base.proofs.ScanLaws.{Folding, folding-start, folding-take, folding-skip, folding-end}
 use Rattle.select.specs.Scans.{takesOf, betterIn}
 use Rattle.select.specs.declared.types.Rival.{Rival}
@@ -48,7 +50,8 @@ loop-again-2 : tie.Need-loop-again-2 Inv-loop μ-loop
 loop-again-2 c = folding-skip _ (c .before .before .before .before .loop .inv) (search needs) (sym (c .before .takes .ensures) ∙ c .if1 .left)
 
 returns : tie.Need-returns Inv-loop μ-loop
-returns c = rw map-same at (folding-end (c .before .loop .inv) (search needs))
+returns c =
+    folding-end (c .before .loop .inv) (search needs) ∙ ap (λ (l : List Rival). foldl (betterIn (c .before .before .args .w)) None l) (map-same (keep (takesOf (c .before .before .args .w)) (c .before .before .args .t1)))
 
 pub least-spec : {M : Type 1} → statement M
 least-spec =
