@@ -9,7 +9,8 @@ use native.Mathlib.Omega.{arith}
 use lib.Dec.{eqb, leb}
 use lib.Ieee.{Float, binary64, mul}
 use Rattle.base.specs.Seq.{pick, every, keep}
-use Rattle.base.proofs.Cases.{on-flag, never}
+use Rattle.base.proofs.Cases.{on-flag, on-order}
+use borrow.Author.Tests.{le-leb, eqb-true, eq-eqb}
 use Rattle.select.specs.Rivals.{byScore, byMedium, byTrip}
 use Rattle.select.specs.Choice.{noneIs, onlyAny, rivalsOf, namedOf, highestOf, highOf, rankedOf, betterOf, firstBy, orElse, scoredOf, nearOf, preferredOf, quickOf, quickest, amongScored, amongRanked, pickedOf}
 use Rattle.select.specs.declared.types.Rival.{Rival}
@@ -76,3 +77,165 @@ module _ (p : Rival → Bool) where
   pub picked-passes : (l : List Rival) (margin : Float) → every p (rankedOf l) ≡ true → passes p (pickedOf l margin) ≡ true
   unfolding pickedOf
   picked-passes l margin h = among-passes (rankedOf l) margin (firstBy byScore (scoredOf (rankedOf l))) h (first-passes byScore (scoredOf (rankedOf l)) (every-keep _ (rankedOf l) h))
+
+-- ---- what the ranked pass
+
+keep-passes : (q : Rival → Bool) (l : List Rival) → every q (keep q l) ≡ true
+keep-passes q [] = refl
+keep-passes q (r ∷ l) = on-flag (q r) (λ f. rw f (every-both q r (keep q l) f (keep-passes q l))) (λ f. rw f (keep-passes q l))
+
+-- if any passes, all that are left do
+only-passes : (q : Rival → Bool) (l : List Rival) → noneIs q l ≡ false → every q (onlyAny q l) ≡ true
+only-passes q l e = rw e (keep-passes q l)
+
+ranked-named : (p : Rival → Bool) (l : List Rival) → every p (namedOf l) ≡ true → every p (rankedOf l) ≡ true
+unfolding rankedOf
+ranked-named p l h = every-only p (λ (r : Rival). r .fits) (highOf (namedOf l)) (every-keep p (λ (r : Rival). eqb (r .tier) (highestOf (namedOf l))) (namedOf l) h)
+
+ranked-held : (l : List Rival) → every (λ r. r .held) (rankedOf l) ≡ true
+ranked-held l =
+    ranked-named (λ (r : Rival). r .held) l (every-only (λ (r : Rival). r .held) (λ (r : Rival). r .pinned) (rivalsOf l) (keep-passes (λ (r : Rival). r .held) l))
+
+ranked-pinned : (l : List Rival) → noneIs (λ r. r .pinned) (rivalsOf l) ≡ false → every (λ r. r .pinned) (rankedOf l) ≡ true
+ranked-pinned l e = ranked-named (λ (r : Rival). r .pinned) l (only-passes (λ (r : Rival). r .pinned) (rivalsOf l) e)
+
+ranked-tier : (l : List Rival) → every (λ r. eqb (r .tier) (highestOf (namedOf l))) (rankedOf l) ≡ true
+unfolding rankedOf
+ranked-tier l =
+    every-only (λ (r : Rival). eqb (r .tier) (highestOf (namedOf l))) (λ (r : Rival). r .fits) (highOf (namedOf l))
+    (keep-passes (λ (r : Rival). eqb (r .tier) (highestOf (namedOf l))) (namedOf l))
+
+ranked-fits : (l : List Rival) → noneIs (λ r. r .fits) (highOf (namedOf l)) ≡ false → every (λ r. r .fits) (rankedOf l) ≡ true
+unfolding rankedOf
+ranked-fits l e = only-passes (λ (r : Rival). r .fits) (highOf (namedOf l)) e
+
+-- ---- the highest tier is the highest
+
+max-up : (m : List ℕ) (z : ℕ) → z ≤ foldl max z m
+max-up [] z = omega arith
+max-up (x ∷ m) z = let h : max z x ≤ foldl max (max z x) m = max-up m (max z x) in omega arith
+
+under : (l : List Rival) (z t : ℕ) → foldl max z (map (λ r. r .tier) l) ≤ t → every (λ r. leb (r .tier) t) l ≡ true
+under [] z t h = refl
+under (r ∷ l) z t h =
+    let k : max z (r .tier) ≤ foldl max (max z (r .tier)) (map (λ (x : Rival). x .tier) l) = max-up (map (λ (x : Rival). x .tier) l) (max z (r .tier)) in
+    every-both (λ (x : Rival). leb (x .tier) t) r l (le-leb (r .tier) t (omega arith)) (under l (max z (r .tier)) t h)
+
+-- no tier of a list is above its highest
+pub highest-tops : (l : List Rival) → every (λ r. leb (r .tier) (highestOf l)) l ≡ true
+highest-tops l = under l 0 (highestOf l) (omega arith)
+
+-- ---- the picked one
+
+-- held, pinned if any is, of the highest tier of those, fitting if any of these fits
+pub record Taken (l : List Rival) (r : Rival) : Type 0 where
+  pub held : r .held ≡ true
+  pub pinned : noneIs (λ x. x .pinned) (rivalsOf l) ≡ false → r .pinned ≡ true
+  pub tier : r .tier ≡ highestOf (namedOf l)
+  pub fits : noneIs (λ x. x .fits) (highOf (namedOf l)) ≡ false → r .fits ≡ true
+
+pub picked-taken : (l : List Rival) (margin : Float) (r : Rival) → pickedOf l margin ≡ Some r → Taken l r
+picked-taken l margin r e =
+    record {
+      held = sym (ap (passes (λ (x : Rival). x .held)) e) ∙ picked-passes (λ (x : Rival). x .held) l margin (ranked-held l);
+      pinned =
+          λ h.
+          sym (ap (passes (λ (x : Rival). x .pinned)) e) ∙ picked-passes (λ (x : Rival). x .pinned) l margin (ranked-pinned l h);
+      tier =
+          eqb-true (r .tier) (highestOf (namedOf l))
+          (sym (ap (passes (λ (x : Rival). eqb (x .tier) (highestOf (namedOf l)))) e)
+          ∙ picked-passes (λ (x : Rival). eqb (x .tier) (highestOf (namedOf l))) l margin (ranked-tier l));
+      fits =
+          λ h.
+          sym (ap (passes (λ (x : Rival). x .fits)) e) ∙ picked-passes (λ (x : Rival). x .fits) l margin (ranked-fits l h);
+    }
+
+-- ---- one is picked exactly if the field is not empty
+
+-- something is there
+abbrev pub isThere : MaybeRival → Bool
+isThere None = false
+isThere (Some r) = true
+
+abbrev pub anyIn : List Rival → Bool
+anyIn [] = false
+anyIn (r ∷ l) = true
+
+module _ (before : Rival → Rival → Bool) where
+  better-there : (f : MaybeRival) (r : Rival) → isThere (betterOf before f r) ≡ true
+  better-there None r = refl
+  better-there (Some a) r = on-flag (before r a) (λ q. rw q refl) (λ q. rw q refl)
+
+  fold-there : (f : MaybeRival) (l : List Rival) → isThere f ≡ true → isThere (foldl (betterOf before) f l) ≡ true
+  fold-there f [] e = e
+  fold-there f (r ∷ l) e = fold-there (betterOf before f r) l (better-there f r)
+
+  first-there : (l : List Rival) → isThere (firstBy before l) ≡ anyIn l
+  first-there [] = refl
+  first-there (r ∷ l) = fold-there (Some r) l refl
+
+else-there : (f : MaybeRival) (r : Rival) → isThere (orElse f r) ≡ true
+else-there (Some a) r = refl
+else-there None r = refl
+
+quickest-there : (near : List Rival) (least : Rival) (f : MaybeRival) → isThere (quickest near least f) ≡ true
+quickest-there near least (Some a) = else-there (firstBy byMedium (quickOf (a .medium) (preferredOf near))) a
+quickest-there near least None = else-there (firstBy byMedium (quickOf (least .medium) near)) least
+
+-- some are kept exactly if not none passes
+keep-any : (q : Rival → Bool) (l : List Rival) → anyIn (keep q l) ≡ not (noneIs q l)
+keep-any q [] = refl
+keep-any q (r ∷ l) = on-flag (q r) (λ f. simp f) (λ f. simp (f, keep-any q l))
+
+keep-from : (q : Rival → Bool) (l : List Rival) → anyIn (keep q l) ≡ true → anyIn l ≡ true
+keep-from q [] e = e
+keep-from q (r ∷ l) e = refl
+
+among-there : (l : List Rival) (margin : Float) (f : MaybeRival) → firstBy byScore (scoredOf l) ≡ f → isThere (amongRanked l margin f) ≡ anyIn l
+among-there l margin None e = first-there byTrip l
+among-there l margin (Some least) e =
+    let near : List Rival = nearOf (mul binary64 (least .score) margin) l in
+    quickest-there near least (firstBy byScore (preferredOf near))
+    ∙ sym (keep-from (λ (r : Rival). r .scored) l (sym (first-there byScore (scoredOf l)) ∙ ap isThere e))
+
+only-any : (q : Rival → Bool) (l : List Rival) → anyIn (onlyAny q l) ≡ anyIn l
+only-any q l =
+    on-flag (noneIs q l)
+    (λ e. rw e refl)
+    (λ e.
+    let h : anyIn (keep q l) ≡ true = keep-any q l ∙ ap not e in
+    rw e (h ∙ sym (keep-from q l h)))
+
+-- the highest tier is some rival's, or the start's
+reached : {C : Type 0} (l : List Rival) (z t : ℕ) → foldl max z (map (λ r. r .tier) l) ≡ t → (z ≡ t → C) → (noneIs (λ r. eqb (r .tier) t) l ≡ false → C) → C
+reached [] z t e f g = f e
+reached (r ∷ l) z t e f g =
+    on-order z (r .tier)
+    (λ h. reached l (max z (r .tier)) t e (λ q. g (let k : eqb (r .tier) t ≡ true = eq-eqb (r .tier) t (omega arith) in simp k)) (λ q. g (tail q)))
+    (λ h. reached l (max z (r .tier)) t e (λ q. f (omega arith)) (λ q. g (tail q)))
+  where
+    tail : noneIs (λ x. eqb (x .tier) t) l ≡ false → noneIs (λ x. eqb (x .tier) t) (r ∷ l) ≡ false
+    tail q = on-flag (eqb (r .tier) t) (λ k. simp k) (λ k. simp (k, q))
+
+high-any : (l : List Rival) → anyIn (highOf l) ≡ anyIn l
+high-any [] = refl
+high-any (r ∷ l) =
+    let t : ℕ = highestOf (r ∷ l) in
+    let n : noneIs (λ (x : Rival). eqb (x .tier) t) (r ∷ l) ≡ false =
+    reached l (max 0 (r .tier)) t refl
+    (λ q. let k : eqb (r .tier) t ≡ true = eq-eqb (r .tier) t (omega arith) in simp k)
+    (λ q. on-flag (eqb (r .tier) t) (λ k. simp k) (λ k. simp (k, q)))
+    in
+    keep-any (λ (x : Rival). eqb (x .tier) t) (r ∷ l) ∙ ap not n
+
+ranked-any : (l : List Rival) → anyIn (rankedOf l) ≡ not (noneIs (λ r. r .held) l)
+unfolding rankedOf
+ranked-any l =
+    only-any (λ (r : Rival). r .fits) (highOf (namedOf l))
+    ∙ high-any (namedOf l)
+    ∙ only-any (λ (r : Rival). r .pinned) (rivalsOf l)
+    ∙ keep-any (λ (r : Rival). r .held) l
+
+pub picked-there : (l : List Rival) (margin : Float) → isThere (pickedOf l margin) ≡ not (noneIs (λ r. r .held) l)
+unfolding pickedOf
+picked-there l margin = among-there (rankedOf l) margin (firstBy byScore (scoredOf (rankedOf l))) refl ∙ ranked-any l
