@@ -1,18 +1,24 @@
 -- What is true of every choice: the chosen one is a held rival, pinned if any is, of the highest tier of those, and fitting if any of
 -- these fits; and one is chosen exactly if the field is not empty.
 -- Assumes nothing.
-use Prim.Native.Nat.{ℕ, max, _≤_}
+use Prim.Native.Nat.{ℕ, zero, suc, _+_, max, _<_, _≤_}
 use mathlib.Core.Path.{_≡_, refl, ap, sym, _∙_}
 use mathlib.Core.Bool.{Bool, true, false, not, _&&_, _||_}
 use mathlib.Core.List.{List, [], _∷_, map, foldl}
 use native.Mathlib.Omega.{arith}
 use lib.Dec.{eqb, leb}
+use lib.ListN.{length, getD}
 use lib.Ieee.{Float, binary64, mul}
 use Rattle.base.specs.Seq.{pick, every, keep}
-use Rattle.base.proofs.Cases.{on-flag, on-order}
+use Rattle.base.proofs.Cases.{on-flag, on-order, never}
 use borrow.Author.Tests.{le-leb, eqb-true, eq-eqb}
-use Rattle.select.specs.Rivals.{byScore, byMedium, byTrip}
-use Rattle.select.specs.Choice.{noneIs, onlyAny, rivalsOf, namedOf, highestOf, highOf, rankedOf, betterOf, firstBy, orElse, scoredOf, nearOf, preferredOf, quickOf, quickest, amongScored, amongRanked, pickedOf}
+use Rattle.base.proofs.ScanLaws.{every-of}
+use Rattle.select.specs.Rivals.{noRival, atPlace, placed, byScore, byMedium, byTrip}
+use Rattle.select.specs.Choice.{noneIs, onlyAny, rivalsOf, namedOf, highestOf, highOf, rankedOf, betterOf, firstBy, orElse, scoredOf, nearOf, preferredOf, quickOf, quickest, amongScored, amongRanked, pickedOf, isLongHeld, slotOf, chooseOf}
+use Rattle.select.specs.Answers.{chosenValue}
+use Rattle.base.specs.declared.types.Refusal.the-variants.{Duration, Index}
+use Rattle.select.specs.declared.types.Chosen.{Chosen}
+use Rattle.select.specs.declared.types.Chosen.the-variants as chosen
 use Rattle.select.specs.declared.types.Rival.{Rival}
 use Rattle.select.specs.declared.types.MaybeRival.{MaybeRival}
 use Rattle.select.specs.declared.types.MaybeRival.the-variants.{None, Some}
@@ -239,3 +245,85 @@ ranked-any l =
 pub picked-there : (l : List Rival) (margin : Float) → isThere (pickedOf l margin) ≡ not (noneIs (λ r. r .held) l)
 unfolding pickedOf
 picked-there l margin = among-there (rankedOf l) margin (firstBy byScore (scoredOf (rankedOf l))) refl ∙ ranked-any l
+
+-- ---- the chosen place
+
+-- at each place of a field that is placed stands no rival, or one with the place for index
+placed-at : (l : List Rival) (n j : ℕ) → placed n l ≡ true → j < length l → atPlace (n + j) (getD l j noRival) ≡ true
+placed-at [] n j e h = absurd (omega arith)
+placed-at (r ∷ l) n zero e h =
+    let k : n + 0 ≡ n = omega arith in
+    on-flag (atPlace n r) (λ q. rw k q) (λ q. let y : true ≡ false = sym (rw q at e) in cc)
+placed-at (r ∷ l) n (suc j) e h =
+    let k : n + suc j ≡ suc n + j = omega arith in
+    on-flag (atPlace n r)
+    (λ q. rw k (placed-at l (suc n) j (rw q at e) (omega arith)))
+    (λ q. let y : true ≡ false = sym (rw q at e) in cc)
+
+-- a rival has a test's mark at the place of its index: what is tried of each ranked one
+abbrev marked : (Rival → Bool) → List Rival → Rival → Bool
+marked q l r = not (r .held && q r) || q (getD l (r .index) noRival)
+
+marked-all : (q : Rival → Bool) (l : List Rival) → placed 0 l ≡ true → every (marked q l) l ≡ true
+marked-all q l e =
+    every-of noRival (marked q l) l
+    (λ j h.
+    let r : Rival = getD l j noRival in
+    let z : 0 + j ≡ j = omega arith in
+    let a : atPlace j r ≡ true = rw z at (placed-at l 0 j e h) in
+    on-flag (r .held)
+    (λ f.
+    let i : r .index ≡ j = eqb-true (r .index) j (rw f at a) in
+    on-flag (q r) (λ g. rw (f, g, i) g) (λ g. simp (f, g)))
+    (λ f. simp f))
+
+ranked-all : (p : Rival → Bool) (l : List Rival) → every p l ≡ true → every p (rankedOf l) ≡ true
+ranked-all p l h = ranked-named p l (every-only p (λ (r : Rival). r .pinned) (rivalsOf l) (every-keep p (λ (r : Rival). r .held) l h))
+
+-- what the picked one passes, the rival at the place of its index passes
+at-index : (q : Rival → Bool) (l : List Rival) (margin : Float) (r : Rival) → placed 0 l ≡ true → pickedOf l margin ≡ Some r → q r ≡ true → q (getD l (r .index) noRival) ≡ true
+at-index q l margin r e p h =
+    let m : marked q l r ≡ true =
+    sym (ap (passes (marked q l)) p) ∙ picked-passes (marked q l) l margin (ranked-all (marked q l) l (marked-all q l e))
+    in
+    let k : r .held ≡ true = picked-taken l margin r p .held in
+    simp (k, h) at m
+
+-- an answer that is a slot
+abbrev isSlot : Chosen → Bool
+isSlot (chosen.Slot n) = true
+isSlot (chosen.Refused why) = false
+
+slot-is : {C : Type 0} (f : MaybeRival) (n : ℕ) → slotOf f ≡ chosen.Slot n → ((r : Rival) → f ≡ Some r → r .index ≡ n → C) → C
+slot-is (Some r) n e g = g r refl (ap chosenValue e)
+slot-is None n e g = never {t = false} (ap isSlot e) refl
+
+accepted : {C : Type 0} (l : List Rival) (margin : Float) (n : ℕ) → chooseOf l margin ≡ chosen.Slot n → (placed 0 l ≡ true → slotOf (pickedOf l margin) ≡ chosen.Slot n → C) → C
+unfolding chooseOf
+accepted l margin n e g =
+    let rest : Chosen = pick (not (placed 0 l)) (chosen.Refused Index) (slotOf (pickedOf l margin)) in
+    on-flag (isLongHeld l)
+    (λ f. never {t = false} (ap isSlot (sym (ap (λ (b : Bool). pick b (chosen.Refused Duration) rest) f) ∙ e)) refl)
+    (λ f.
+    let d : rest ≡ chosen.Slot n = sym (ap (λ (b : Bool). pick b (chosen.Refused Duration) rest) f) ∙ e in
+    on-flag (placed 0 l)
+    (λ p. g p (sym (ap (λ (b : Bool). pick (not b) (chosen.Refused Index) (slotOf (pickedOf l margin))) p) ∙ d))
+    (λ p. never {t = false} (ap isSlot (sym (ap (λ (b : Bool). pick (not b) (chosen.Refused Index) (slotOf (pickedOf l margin))) p) ∙ d)) refl))
+
+-- at the slot that `choose` answers stands a held rival, pinned if any is, of the highest tier of those, fitting if any of these fits
+pub chosen-taken : (l : List Rival) (margin : Float) (n : ℕ) → chooseOf l margin ≡ chosen.Slot n → Taken l (getD l n noRival)
+chosen-taken l margin n e =
+    accepted l margin n e
+    (λ p s.
+    slot-is (pickedOf l margin) n s
+    (λ r f i.
+    let t : Taken l r = picked-taken l margin r f in
+    rw (sym i)
+    (record {
+      held = at-index (λ (x : Rival). x .held) l margin r p f (t .held);
+      pinned = λ h. at-index (λ (x : Rival). x .pinned) l margin r p f (t .pinned h);
+      tier =
+          eqb-true (getD l (r .index) noRival .tier) (highestOf (namedOf l))
+          (at-index (λ (x : Rival). eqb (x .tier) (highestOf (namedOf l))) l margin r p f (eq-eqb (r .tier) (highestOf (namedOf l)) (t .tier)));
+      fits = λ h. at-index (λ (x : Rival). x .fits) l margin r p f (t .fits h);
+    })))

@@ -27,11 +27,17 @@ pub fn picked(field: [Rival; 8], margin: f64) -> MaybeRival
             match second {
                 MaybeRival::Some(p) => {
                     let m = p.medium;
-                    or_else(crate::scan::least(field, Want::Quicker(g, limit, true, m)), p)
+                    or_else(
+                        crate::scan::least(field, Want::Quicker(g, limit, true, m)),
+                        p,
+                    )
                 }
                 MaybeRival::None => {
                     let m = best.medium;
-                    or_else(crate::scan::least(field, Want::Quicker(g, limit, false, m)), best)
+                    or_else(
+                        crate::scan::least(field, Want::Quicker(g, limit, false, m)),
+                        best,
+                    )
                 }
             }
         }

@@ -11,7 +11,8 @@ fn kept(to: Rival, from: Rival, margin: f64) -> bool
 {
     let m = from.medium;
     let n = to.medium;
-    crate::media::quicker(m, n) & ((from.steadied & to.steadied) & (from.steady <= to.steady * margin))
+    crate::media::quicker(m, n)
+        & ((from.steadied & to.steadied) & (from.steady <= to.steady * margin))
 }
 
 // Whether `to` is the faster of the two at its best over the horizon, and `from` not kept for its medium.

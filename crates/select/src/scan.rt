@@ -33,10 +33,12 @@ fn takes(w: Want, r: Rival) -> bool
 {
     match w {
         Want::Scored(g) => crate::gate::ranks(g, r) & r.scored,
-        Want::Preferred(g, limit) => ((crate::gate::ranks(g, r) & r.scored) & (r.score <= limit)) & r.preferred,
+        Want::Preferred(g, limit) => ((crate::gate::ranks(g, r) & r.scored) & (r.score <= limit))
+            & r.preferred,
         Want::Quicker(g, limit, only, medium) => {
             let m = r.medium;
-            (((crate::gate::ranks(g, r) & r.scored) & (r.score <= limit)) & (r.preferred | !only)) & crate::media::quicker(m, medium)
+            (((crate::gate::ranks(g, r) & r.scored) & (r.score <= limit)) & (r.preferred | !only))
+                & crate::media::quicker(m, medium)
         }
         Want::Timed(g) => crate::gate::ranks(g, r),
     }
