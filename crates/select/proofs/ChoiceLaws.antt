@@ -11,12 +11,12 @@ use lib.ListN.{length, getD}
 use lib.Ieee.{Float, binary64, mul}
 use Rattle.base.specs.Seq.{pick, every, keep}
 use Rattle.base.proofs.Cases.{on-flag, on-order, never}
-use borrow.Author.Tests.{le-leb, eqb-true, eq-eqb}
+use borrow.Author.Tests.{le-leb, eqb-true, eq-eqb, not-true}
 use Rattle.base.proofs.ScanLaws.{every-of}
-use Rattle.select.specs.Rivals.{noRival, atPlace, placed, byScore, byMedium, byTrip}
+use Rattle.select.specs.Rivals.{noRival, isLong, atPlace, placed, byScore, byMedium, byTrip}
 use Rattle.select.specs.Choice.{noneIs, onlyAny, rivalsOf, namedOf, highestOf, highOf, rankedOf, betterOf, firstBy, orElse, scoredOf, nearOf, preferredOf, quickOf, quickest, amongScored, amongRanked, pickedOf, isLongHeld, slotOf, chooseOf}
 use Rattle.select.specs.Answers.{chosenValue}
-use Rattle.base.specs.declared.types.Refusal.the-variants.{Duration, Index}
+use Rattle.base.specs.declared.types.Refusal.the-variants.{Duration, Index, NoPath}
 use Rattle.select.specs.declared.types.Chosen.{Chosen}
 use Rattle.select.specs.declared.types.Chosen.the-variants as chosen
 use Rattle.select.specs.declared.types.Rival.{Rival}
@@ -327,3 +327,30 @@ chosen-taken l margin n e =
           (at-index (λ (x : Rival). eqb (x .tier) (highestOf (namedOf l))) l margin r p f (eq-eqb (r .tier) (highestOf (namedOf l)) (t .tier)));
       fits = λ h. at-index (λ (x : Rival). x .fits) l margin r p f (t .fits h);
     })))
+
+-- ---- an empty field
+
+empty-rivals : (l : List Rival) → noneIs (λ r. r .held) l ≡ true → rivalsOf l ≡ []
+empty-rivals [] e = refl
+empty-rivals (r ∷ l) e =
+    let h : r .held ≡ false = not-true (r .held) (every-head (λ (x : Rival). not (x .held)) r l e) in
+    rw h (empty-rivals l (every-tail (λ (x : Rival). not (x .held)) r l e))
+
+empty-placed : (l : List Rival) (n : ℕ) → noneIs (λ r. r .held) l ≡ true → placed n l ≡ true
+empty-placed [] n e = refl
+empty-placed (r ∷ l) n e =
+    let h : r .held ≡ false = not-true (r .held) (every-head (λ (x : Rival). not (x .held)) r l e) in
+    rw h (empty-placed l (suc n) (every-tail (λ (x : Rival). not (x .held)) r l e))
+
+nothing : (f : MaybeRival) → isThere f ≡ false → slotOf f ≡ chosen.Refused NoPath
+nothing None e = refl
+nothing (Some r) e = never {t = true} refl e
+
+-- `choose` answers 11
+pub empty-none : (l : List Rival) (margin : Float) → noneIs (λ r. r .held) l ≡ true → chooseOf l margin ≡ chosen.Refused NoPath
+unfolding chooseOf
+empty-none l margin e =
+    ap (λ (m : List Rival). pick (not (noneIs isLong m)) (chosen.Refused Duration) (pick (not (placed 0 l)) (chosen.Refused Index) (slotOf (pickedOf l margin))))
+    (empty-rivals l e)
+    ∙ ap (λ (b : Bool). pick (not b) (chosen.Refused Index) (slotOf (pickedOf l margin))) (empty-placed l 0 e)
+    ∙ nothing (pickedOf l margin) (picked-there l margin ∙ ap not e)
