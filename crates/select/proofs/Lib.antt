@@ -3,3 +3,4 @@ mod PlaceLaws
 mod KeepLaws
 mod RankLaws
 mod PickLaws
+pub mod ChoiceLaws

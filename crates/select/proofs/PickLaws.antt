@@ -3,11 +3,11 @@
 use mathlib.Core.Path.{_≡_, refl, ap, sym, _∙_}
 use mathlib.Core.Bool.{Bool, true, false, not}
 use mathlib.Core.List.{List}
-use lib.Ieee.{Float, binary64, mul}
+use lib.Ieee.{Float}
 use Rattle.base.specs.Seq.{pick, every}
 use Rattle.base.specs.declared.types.Refusal.the-variants.{Duration, Index, NoPath}
 use Rattle.select.specs.Rivals.{placed, byScore, byMedium, byTrip}
-use Rattle.select.specs.Choice.{rankedOf, firstBy, orElse, scoredOf, nearOf, preferredOf, quickOf, quickest, amongScored, amongRanked, pickedOf, isLongHeld, slotOf, chooseOf, scoreOf, bestOf}
+use Rattle.select.specs.Choice.{rankedOf, limitOf, firstBy, orElse, scoredOf, nearOf, preferredOf, quickOf, quickest, amongScored, amongRanked, pickedOf, isLongHeld, slotOf, chooseOf, scoreOf, bestOf}
 use Rattle.select.specs.Scans.{lacksOf, gateOf, scanOf}
 use Rattle.select.specs.declared.types.Rival.{Rival}
 use Rattle.select.specs.declared.types.Gate.{Gate}
@@ -27,39 +27,39 @@ module _ (l : List Rival) {g : Gate} {first : MaybeRival} (e : g ≡ gateOf l) (
   first-is = scan-scored l ∙ ap (λ (x : Gate). scanOf (Scored x) l) (sym e) ∙ sym f
 
   module _ (margin : Float) where
-    module _ {least : Rival} {second : MaybeRival} (h : first ≡ Some least) (s : second ≡ scanOf (Preferred g (mul binary64 (least .score) margin)) l) where
+    module _ {least : Rival} {second : MaybeRival} {x : Float} (h : first ≡ Some least) (y : x ≡ limitOf least margin) (s : second ≡ scanOf (Preferred g x) l) where
       -- what the scan for a preferred one found
-      second-is : pickedOf l margin ≡ quickest (nearOf (mul binary64 (least .score) margin) (rankedOf l)) least second
+      second-is : pickedOf l margin ≡ quickest (nearOf (limitOf least margin) (rankedOf l)) least second
       unfolding pickedOf
       second-is =
           ap (amongRanked (rankedOf l) margin) (first-is ∙ h)
-          ∙ ap (quickest (nearOf (mul binary64 (least .score) margin) (rankedOf l)) least)
-          (scan-preferred (mul binary64 (least .score) margin) l ∙ ap (λ (x : Gate). scanOf (Preferred x (mul binary64 (least .score) margin)) l) (sym e) ∙ sym s)
+          ∙ ap (quickest (nearOf (limitOf least margin) (rankedOf l)) least)
+          (scan-preferred (limitOf least margin) l ∙ ap (λ (x : Gate). scanOf (Preferred x (limitOf least margin)) l) (sym e) ∙ ap (λ (z : Float). scanOf (Preferred g z) l) (sym y) ∙ sym s)
 
       -- one was picked
       pub picked-preferred : {p : Rival} {third k : MaybeRival} → second ≡ Some p
-          → third ≡ scanOf (Quicker g (mul binary64 (least .score) margin) true (p .medium)) l → k ≡ orElse third p → k ≡ pickedOf l margin
+          → third ≡ scanOf (Quicker g (limitOf least margin) true (p .medium)) l → k ≡ orElse third p → k ≡ pickedOf l margin
       picked-preferred {p} {third} {k} i t o =
           o
           ∙ sym
           (second-is
-          ∙ ap (quickest (nearOf (mul binary64 (least .score) margin) (rankedOf l)) least) i
+          ∙ ap (quickest (nearOf (limitOf least margin) (rankedOf l)) least) i
           ∙ ap (λ (x : MaybeRival). orElse x p)
-          (scan-preferred-quick (mul binary64 (least .score) margin) (p .medium) l
-          ∙ ap (λ (x : Gate). scanOf (Quicker x (mul binary64 (least .score) margin) true (p .medium)) l) (sym e)
+          (scan-preferred-quick (limitOf least margin) (p .medium) l
+          ∙ ap (λ (x : Gate). scanOf (Quicker x (limitOf least margin) true (p .medium)) l) (sym e)
           ∙ sym t))
 
       -- none was
       pub picked-plain : {third k : MaybeRival} → second ≡ None
-          → third ≡ scanOf (Quicker g (mul binary64 (least .score) margin) false (least .medium)) l → k ≡ orElse third least → k ≡ pickedOf l margin
+          → third ≡ scanOf (Quicker g (limitOf least margin) false (least .medium)) l → k ≡ orElse third least → k ≡ pickedOf l margin
       picked-plain {third} {k} i t o =
           o
           ∙ sym
           (second-is
-          ∙ ap (quickest (nearOf (mul binary64 (least .score) margin) (rankedOf l)) least) i
+          ∙ ap (quickest (nearOf (limitOf least margin) (rankedOf l)) least) i
           ∙ ap (λ (x : MaybeRival). orElse x least)
-          (scan-quick (mul binary64 (least .score) margin) (least .medium) l
-          ∙ ap (λ (x : Gate). scanOf (Quicker x (mul binary64 (least .score) margin) false (least .medium)) l) (sym e)
+          (scan-quick (limitOf least margin) (least .medium) l
+          ∙ ap (λ (x : Gate). scanOf (Quicker x (limitOf least margin) false (least .medium)) l) (sym e)
           ∙ sym t))
 
     -- none has a score

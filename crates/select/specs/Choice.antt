@@ -72,6 +72,10 @@ orElse None r = Some r
 abbrev pub scoredOf : List Rival → List Rival
 scoredOf l = keep (λ r. r .scored) l
 
+-- best × margin
+abbrev pub limitOf : Rival → Float → Float
+limitOf best margin = mul binary64 (best .score) margin
+
 -- those with score <= limit, which is best × margin
 abbrev pub nearOf : Float → List Rival → List Rival
 nearOf limit l = keep (λ r. le (r .score) limit) (scoredOf l)
@@ -95,7 +99,7 @@ amongScored near least = quickest near least (firstBy byScore (preferredOf near)
 
 -- if one has a score: least score, then index; with no score: known RTT first, then RTT, index
 abbrev pub amongRanked : List Rival → Float → MaybeRival → MaybeRival
-amongRanked ranked margin (Some least) = amongScored (nearOf (mul binary64 (least .score) margin) ranked) least
+amongRanked ranked margin (Some least) = amongScored (nearOf (limitOf least margin) ranked) least
 amongRanked ranked margin None = firstBy byTrip ranked
 
 -- the rival to take, or none

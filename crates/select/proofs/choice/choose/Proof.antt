@@ -28,8 +28,13 @@ enum-known-r c = search needs
 enum-told : tie.Need-enum-told
 enum-told c = search needs
 
+slot-requires : tie.Need-slot-requires
+slot-requires c κs = search needs
+
 returns-3 : tie.Need-returns-3
-returns-3 c = choose-slot (c .before .before .before .before .before .before .before .before .args .field) (c .before .before .before .before .before .before .before .before .args .margin) (sym (c .before .before .before .before .before .before .before .none .ensures) ∙ not-false _ (c .before .before .before .before .before .before .if1 .left)) (sym (c .before .before .before .before .before .in-place .ensures) ∙ not-false _ (c .before .before .before .before .if2 .left)) (c .before .before .before .picked .ensures) (c .before .r .given .1)
+returns-3 c =
+    rw (c .slot .ensures)
+    (choose-slot (c .before .before .before .before .before .before .before .before .before .args .field) (c .before .before .before .before .before .before .before .before .before .args .margin) (sym (c .before .before .before .before .before .before .before .before .none .ensures) ∙ not-false _ (c .before .before .before .before .before .before .before .if1 .left)) (sym (c .before .before .before .before .before .before .in-place .ensures) ∙ not-false _ (c .before .before .before .before .before .if2 .left)) (c .before .before .before .before .picked .ensures) (c .before .before .r .given .1))
 
 returns-4 : tie.Need-returns-4
 returns-4 c = choose-slot (c .before .before .before .before .before .before .before .args .field) (c .before .before .before .before .before .before .before .args .margin) (sym (c .before .before .before .before .before .before .none .ensures) ∙ not-false _ (c .before .before .before .before .before .if1 .left)) (sym (c .before .before .before .before .in-place .ensures) ∙ not-false _ (c .before .before .before .if2 .left)) (c .before .before .picked .ensures) (c .enum-told .given .1)
@@ -44,6 +49,7 @@ choose-spec =
     returns-2
     picked-requires
     enum-known-r
+    slot-requires
     enum-told
     returns-3
     returns-4)
