@@ -3,14 +3,14 @@
 use Prim.Native.Nat.{ℕ, zero, suc}
 use mathlib.Core.List.{List, [], _∷_}
 use mathlib.Core.Bool.{Bool}
-use lib.Dec.{eqb, ltb}
+use lib.Dec.{eqb, leb}
 use lib.Ieee.{Float, binary64, ofBits}
 use lib.ListN.{length, drop}
 use Rattle.base.specs.Seq.{pick}
 use Rattle.base.specs.Refusals.{refusalNumber}
 use Rattle.octets.specs.Octets.{wordsOf, over}
 use Rattle.image.specs.Image.{etxBits}
-use Rattle.select.specs.Answers.{chosenNumber, chosenValue, bestNumber, heldNumber, heldValue, costNumber, sizeNumber, sizeValue}
+use Rattle.select.specs.Answers.{chosenNumber, chosenValue, heldNumber, heldValue, costNumber, sizeNumber, sizeValue}
 use Rattle.select.specs.Choice.{chooseOf, bestOf}
 use Rattle.select.specs.Hold.{heldOf, waitsOf, newHold, reportOf, costOf}
 use Rattle.select.specs.Carried.{carriedOf}
@@ -42,13 +42,23 @@ bestWords (best.Score x) = 1 ∷ etxBits x ∷ []
 bestWords best.Unscored = 0 ∷ 0 ∷ []
 bestWords (best.Refused why) = []
 
--- 13 for a field that has not 768 bytes, 16 for fewer than 16 lent ones
+-- 16 for fewer than 16 lent bytes
+abbrev pub lentNumber : ℕ → ℕ
+lentNumber lent = pick (leb 16 lent) 0 16
+
+-- the choice's own numbers come before 16
+abbrev pub bestLent : BestAnswer → ℕ → ℕ
+bestLent (best.Score x) lent = lentNumber lent
+bestLent best.Unscored lent = lentNumber lent
+bestLent (best.Refused why) lent = refusalNumber why
+
+-- 13 for a field that has not 768 bytes; then 6 and 12; then 16
 unfoldable pub bestNumberOf : List ℕ → ℕ → ℕ
-bestNumberOf s lent = pick (eqb (length s) 768) (pick (ltb lent 16) 16 (bestNumber (bestOf (fieldOf s)))) 13
+bestNumberOf s lent = pick (eqb (length s) 768) (bestLent (bestOf (fieldOf s)) lent) 13
 
 -- the lent bytes after it: the two numbers over their front, or as they were where it is refused
 unfoldable pub bestOut : List ℕ → List ℕ → List ℕ
-bestOut s l = pick (eqb (length s) 768) (pick (ltb (length l) 16) l (over (wordsOf (bestWords (bestOf (fieldOf s)))) l)) l
+bestOut s l = pick (eqb (length s) 768) (over (wordsOf (bestWords (bestOf (fieldOf s)))) l) l
 
 -- 1 if the change is held
 abbrev pub heldReply : HeldAnswer → Reply

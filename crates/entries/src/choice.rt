@@ -1,9 +1,12 @@
 // The choice among rivals, over C: rivals as bytes.
 ghost use mathlib.Core.Path.{_≡_};
 ghost use lib.ListN.{length};
+ghost use mathlib.Core.List.{[], _∷_};
+ghost use Rattle.etx.specs.Etx.{scoreOf};
+ghost use Rattle.octets.specs.Octets.{over, wordsOf};
 ghost use Rattle.select.specs.Media.{tierOf, quickerOf};
 ghost use Rattle.fields.specs.Fields.{mediumOf, roleOf};
-ghost use Rattle.entries.specs.Choice.{chosenReply, chooseReply, bestNumberOf, bestOut, heldReply, heldFrom, waitsFrom, reportsOf, holdReply, costReply, sizedReply, maybeSize, carriedReply};
+ghost use Rattle.entries.specs.Choice.{chosenReply, chooseReply, lentNumber, bestNumberOf, bestOut, heldReply, heldFrom, waitsFrom, reportsOf, holdReply, costReply, sizedReply, maybeSize, carriedReply};
 use crate::Reply;
 use base::types::*;
 use script::answers::number;
@@ -40,6 +43,17 @@ pub extern "C" fn hess_choose(field: &[u8], margin: f64) -> Reply
     of_chosen(select::choice::choose(rivals, margin))
 }
 
+// Writes two numbers into the lent bytes, or says 16 and writes nothing.
+fn put_best(out: &mut [u8], tag: u64, bits: u64) -> u64
+    ensures { λ r. ⌜ (r ≡ lentNumber (length (now (out .entry)))) × (now (out .exit) ≡ over (wordsOf (tag ∷ bits ∷ [])) (now (out .entry))) ⌝ }
+{
+    let words = [tag, bits];
+    if octets::put_words(out, &words) {
+        return 0;
+    }
+    16
+}
+
 // Writes whether there is a best score, and its bits.
 #[no_mangle]
 pub extern "C" fn hess_best(field: &[u8], out: &mut [u8]) -> u64
@@ -48,23 +62,20 @@ pub extern "C" fn hess_best(field: &[u8], out: &mut [u8]) -> u64
     if field.len() != 768 {
         return 13;
     }
-    if out.len() < 16 {
-        return 16;
-    }
     let rivals = fields::field_from(field);
     match select::choice::best(rivals) {
-        BestAnswer::Score(x) => {
-            let words = [1, image::words::etx_bits(x)];
-            octets::put_words(out, &words);
-            0
-        }
-        BestAnswer::Unscored => {
-            let words = [0u64; 2];
-            octets::put_words(out, &words);
-            0
-        }
+        BestAnswer::Score(x) => put_best(out, 1, image::words::etx_bits(x)),
+        BestAnswer::Unscored => put_best(out, 0, 0),
         BestAnswer::Refused(why) => number(why),
     }
+}
+
+// The score of a path by its ETX and its least round trip.
+#[no_mangle]
+pub extern "C" fn hess_score(etx: f64, rtt: u64) -> f64
+    ensures { λ r. ⌜ r ≡ scoreOf etx rtt ⌝ }
+{
+    scores::quality(etx, rtt)
 }
 
 // Whether a change is held, or the refusal.

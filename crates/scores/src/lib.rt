@@ -1,5 +1,6 @@
 // The score of a path, and its score over the horizon (the Rust's `score` and `steady` of select.rs).
 ghost use mathlib.Core.Path.{_≡_};
+ghost use Rattle.etx.specs.Etx.{scoreOf};
 ghost use Rattle.scores.specs.Scores.{scored, pathScore, pathSteady};
 use base::types::MaybeTime;
 use live::types::Liveness;
@@ -10,13 +11,20 @@ pub enum MaybeScore {
     Some(f64),
 }
 
-// The quality index of an ETX and a round trip in milliseconds, if there is one.
+// The quality index of an ETX and a round trip of so many nanoseconds, taken in milliseconds.
+pub fn quality(etx: f64, ns: u64) -> f64
+    ensures { λ r. ⌜ r ≡ scoreOf etx ns ⌝ }
+{
+    etx::quality_index(etx, etx::seconds(ns) * 1000.0)
+}
+
+// The quality index of an ETX and a round trip, if there is one.
 fn score_of(etx: f64, rtt: MaybeTime) -> MaybeScore
     ensures { λ r. ⌜ r ≡ scored etx rtt ⌝ }
 {
     match rtt {
         MaybeTime::None => MaybeScore::None,
-        MaybeTime::Some(t) => MaybeScore::Some(etx::quality_index(etx, etx::seconds(t) * 1000.0)),
+        MaybeTime::Some(t) => MaybeScore::Some(quality(etx, t)),
     }
 }
 

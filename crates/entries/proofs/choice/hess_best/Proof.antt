@@ -1,22 +1,14 @@
 -- `entries::choice::hess_best` meets its contract.
 -- Assumes nothing.
-use mathlib.Core.Path.{_≡_, refl, sym, ap, _∙_}
-use mathlib.Core.List.{[], _∷_}
-use Prim.Native.Nat.{ℕ}
-use lib.ListN.{length}
-use Rattle.select.specs.Answers.{bestNumber}
+use mathlib.Core.Path.{ap, _∙_}
 use Rattle.select.specs.Choice.{bestOf}
-use Rattle.entries.specs.Choice.{bestWords}
-use Rattle.entries.proofs.ChoiceLaws.{best-cut, best-lent, best-done, over-none}
+use Rattle.entries.proofs.ChoiceLaws.{best-cut, best-done, over-none}
 use borrow.Author.Needs.{needs}
 use Rattle.entries.proofs.choice.hess_best.Statement.{statement}
 use Rattle.entries.proofs.choice.hess_best.Tie as tie
 
 returns : tie.Need-returns
 returns c = best-cut _ _ (c .if1 .taken)
-
-returns-2 : tie.Need-returns-2
-returns-2 c = best-lent _ _ (c .before .if1 .left) (c .if2 .taken)
 
 field-from-requires : tie.Need-field-from-requires
 field-from-requires c κs = search needs
@@ -30,20 +22,14 @@ enum-known-x c = search needs
 etx-bits-requires : tie.Need-etx-bits-requires
 etx-bits-requires c κs = search needs
 
-slice-aggregate-put-words : tie.Need-slice-aggregate-put-words
-slice-aggregate-put-words c = search needs
-
-put-words-requires : tie.Need-put-words-requires
-put-words-requires c κs = search needs
+put-best-requires : tie.Need-put-best-requires
+put-best-requires c κs = search needs
 
 enum-told : tie.Need-enum-told
 enum-told c = search needs
 
-slice-aggregate-put-words-2 : tie.Need-slice-aggregate-put-words-2
-slice-aggregate-put-words-2 c = search needs
-
-put-words-requires-2 : tie.Need-put-words-requires-2
-put-words-requires-2 c κs = search needs
+put-best-requires-2 : tie.Need-put-best-requires-2
+put-best-requires-2 c κs = search needs
 
 enum-known-why : tie.Need-enum-known-why
 enum-known-why c = search needs
@@ -54,37 +40,34 @@ number-requires c κs = search needs
 same-length : tie.Need-same-length
 same-length c = search needs
 
-returns-3 : tie.Need-returns-3
-returns-3 c = best-done _ _ (c .before .before .before .before .before .before .before .before .before .before .before .before .if1 .left) (c .before .before .before .before .before .before .before .before .before .before .before .if2 .left) (c .before .before .before .before .before .before .before .before .before .best .ensures ∙ ap bestOf (c .before .before .before .before .before .before .before .before .before .before .field-from .ensures)) (rw (c .before .before .before .before .before .before .before .x .given .1)) (rw (c .before .before .before .before .before .before .before .x .given .1, c .before .before .before .before .before .etx-bits .ensures)) (c .before .before .put-words .ensures .1)
+returns-2 : tie.Need-returns-2
+returns-2 c = best-done _ _ (c .before .before .before .before .before .before .before .before .before .before .if1 .left) (c .before .before .before .before .before .before .before .before .best .ensures ∙ ap bestOf (c .before .before .before .before .before .before .before .before .before .field-from .ensures)) (rw (c .before .before .before .before .before .before .x .given .1) (c .before .before .put-best .ensures .0)) (rw (c .before .before .before .before .before .before .x .given .1, c .before .before .before .etx-bits .ensures)) (c .before .before .put-best .ensures .1)
 
 same-length-2 : tie.Need-same-length-2
 same-length-2 c = search needs
 
-returns-4 : tie.Need-returns-4
-returns-4 c = best-done _ _ (c .before .before .before .before .before .before .before .before .before .before .if1 .left) (c .before .before .before .before .before .before .before .before .before .if2 .left) (c .before .before .before .before .before .before .before .best .ensures ∙ ap bestOf (c .before .before .before .before .before .before .before .before .field-from .ensures)) (rw (c .before .before .before .before .before .enum-told .given .1)) (rw (c .before .before .before .before .before .enum-told .given .1)) (c .before .before .put-words2 .ensures .1)
+returns-3 : tie.Need-returns-3
+returns-3 c = best-done _ _ (c .before .before .before .before .before .before .before .before .if1 .left) (c .before .before .before .before .before .before .best .ensures ∙ ap bestOf (c .before .before .before .before .before .before .before .field-from .ensures)) (rw (c .before .before .before .before .enum-told .given .1) (c .before .before .put-best2 .ensures .0)) (rw (c .before .before .before .before .enum-told .given .1)) (c .before .before .put-best2 .ensures .1)
 
-returns-5 : tie.Need-returns-5
-returns-5 c = best-done _ _ (c .before .before .before .before .before .before .before .if1 .left) (c .before .before .before .before .before .before .if2 .left) (c .before .before .before .before .best .ensures ∙ ap bestOf (c .before .before .before .before .before .field-from .ensures)) (rw (c .before .before .why .given .1) (c .number .ensures)) (rw (c .before .before .why .given .1)) (over-none _)
+returns-4 : tie.Need-returns-4
+returns-4 c = best-done _ _ (c .before .before .before .before .before .before .if1 .left) (c .before .before .before .before .best .ensures ∙ ap bestOf (c .before .before .before .before .before .field-from .ensures)) (rw (c .before .before .why .given .1) (c .number .ensures)) (rw (c .before .before .why .given .1)) (over-none _)
 
 pub hess-best-spec : {M : Type 1} → statement M
 hess-best-spec =
     tie.close
     (tie.spec
     returns
-    returns-2
     field-from-requires
     best-requires
     enum-known-x
     etx-bits-requires
-    slice-aggregate-put-words
-    put-words-requires
+    put-best-requires
     enum-told
-    slice-aggregate-put-words-2
-    put-words-requires-2
+    put-best-requires-2
     enum-known-why
     number-requires
     same-length
-    returns-3
+    returns-2
     same-length-2
-    returns-4
-    returns-5)
+    returns-3
+    returns-4)
