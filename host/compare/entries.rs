@@ -44,6 +44,7 @@ unsafe extern "C" {
     fn hess_held(pair: *const u8, len: usize, margin: f64) -> Reply;
     fn hess_waits(pair: *const u8, len: usize, margin: f64) -> Reply;
     pub safe fn hess_hold(at: u64, reports: u8, now: u64, dwell: u64) -> Reply;
+    pub safe fn hess_score(etx: f64, rtt: u64) -> f64;
     pub safe fn hess_tier(role: u64) -> u64;
     pub safe fn hess_quicker(a: u64, b: u64) -> u8;
     pub safe fn hess_carried(link: u32, held: bool, proven: u32, oriented: bool) -> Reply;

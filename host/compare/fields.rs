@@ -4,7 +4,7 @@
 //! every NaN as the positive quiet one. On how many fields the Rust itself answers otherwise
 //! where it sees sign and payload is counted beside.
 
-use crate::entries::{self, Reply, hess_carried, hess_hold, hess_quicker, hess_tier};
+use crate::entries::{self, Reply, hess_carried, hess_hold, hess_quicker, hess_score, hess_tier};
 use crate::random::{LIMITS, Rng};
 use crate::rivals::{
     Case, FITS, HELD, INDEX, MARKS, MEDIUM, PINNED, PREFERRED, RTT, SCORE, SCORED, TIER, TIMED,
@@ -12,7 +12,7 @@ use crate::rivals::{
 };
 use oracle::proto::path::choice::{
     BEST, FIELD, Nans, PAIR, Pair, WORDS, best_of, carried_of, choose_of, held_of, hold_of,
-    quicker_of, tier_of, waits_of,
+    one_nan, quicker_of, score_of, tier_of, waits_of,
 };
 use std::collections::BTreeMap;
 use std::fmt::Debug;
@@ -22,6 +22,8 @@ use std::time::Instant;
 const FIELDS: usize = 1_000_000;
 const PAIRS: usize = 200_000;
 const HOLDS: usize = 200_000;
+/// Scores of paths.
+const SCORES: usize = 200_000;
 const SEED: u64 = 200;
 /// Bytes lent past those that are written.
 const PAST: usize = 40;
@@ -83,6 +85,7 @@ impl Fields {
         all.holds();
         all.media();
         all.carried();
+        all.scores();
         all
     }
 
@@ -340,6 +343,25 @@ impl Fields {
                 let ours = reply(hess_quicker(a, b).into());
                 self.same("quicker", (a, b), ours, (0, rust));
                 self.one("quicker", rust);
+            }
+        }
+    }
+
+    /// The score and the score over the horizon of paths with one sample, any ETX and round trip.
+    fn scores(&mut self) {
+        for n in 0..SCORES {
+            let etx = match n % 4 {
+                0 => f64::from_bits(self.rng.next()),
+                1 => self.rng.pick(&[0.0, -0.0, 1.0, 1.3, 100.0, f64::INFINITY, f64::NAN]),
+                _ => 1.0 + self.rng.below(99_000_000) as f64 / 1e6,
+            };
+            let rtt = match n % 3 {
+                0 => self.rng.wide(),
+                _ => self.rng.below(2_000_000_000),
+            };
+            let value = one_nan(hess_score(etx, rtt).to_bits());
+            for rust in score_of(etx, rtt) {
+                self.same("score", (etx, rtt), Reply { number: 0, value }, (0, rust));
             }
         }
     }

@@ -2,9 +2,11 @@
 //! read from words. It stands beside select.rs, and so sees what is open to its neighbours. The
 //! refusals are the entries' (5 length, 6 duration, 11, 12, 13, 16).
 
+use super::live::Liveness;
 use super::select::{self, Field, Hold, Rival};
 use super::set::{Medium, PATH_MAX_PER_PEER};
 use super::{Role, script::duration, script::length};
+use crate::time::Duration;
 
 /// Words of a rival, in the order of the C interface.
 pub const WORDS: usize = 12;
@@ -133,11 +135,21 @@ pub fn choose_of(bytes: &[u8], margin: f64, nans: Nans) -> Pair {
 
 /// `hess_best`: the refusal, or the two words that it writes.
 pub fn best_of(bytes: &[u8], lent: usize, nans: Nans) -> Answer<[u64; 2]> {
-    if bytes.len() == FIELD && lent < BEST {
+    let best = select::best(&field(bytes, nans)?);
+    if lent < BEST {
         return Err(16);
     }
-    let best = select::best(&field(bytes, nans)?);
     Ok(best.map_or([0, 0], |score| [1, one_nan(score.to_bits())]))
+}
+
+/// `hess_score`: the bits of `score` and `steady` of a path with this ETX and one sample.
+pub fn score_of(etx: f64, rtt: u64) -> [u64; 2] {
+    let mut path = Liveness::with_etx(etx);
+    path.sample(0, Duration(rtt), Duration(0), Duration(0));
+    [select::score(&path), select::steady(&path)].map(|score| match score {
+        Some(score) => one_nan(score.to_bits()),
+        None => panic!("a path with a sample has a score"),
+    })
 }
 
 /// `hess_held`.
