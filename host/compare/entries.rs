@@ -36,3 +36,41 @@ pub fn script(script: &[u8], out: &mut [u8]) -> u64 {
     // Both pointers are good for as many bytes as stand beside them, and apart.
     unsafe { hess_script(script.as_ptr(), script.len(), out.as_mut_ptr(), out.len()) }
 }
+
+#[cfg(choice)]
+unsafe extern "C" {
+    fn hess_choose(field: *const u8, len: usize, margin: f64) -> Reply;
+    fn hess_best(field: *const u8, len: usize, out: *mut u8, outlen: usize) -> u64;
+    fn hess_held(pair: *const u8, len: usize, margin: f64) -> Reply;
+    fn hess_waits(pair: *const u8, len: usize, margin: f64) -> Reply;
+    pub safe fn hess_hold(at: u64, reports: u8, now: u64, dwell: u64) -> Reply;
+    pub safe fn hess_score(etx: f64, rtt: u64) -> f64;
+    pub safe fn hess_tier(role: u64) -> u64;
+    pub safe fn hess_quicker(a: u64, b: u64) -> u8;
+    pub safe fn hess_carried(link: u32, held: bool, proven: u32, oriented: bool) -> Reply;
+}
+
+/// The chosen place.
+#[cfg(choice)]
+pub fn choose(field: &[u8], margin: f64) -> Reply {
+    // The pointer is good for as many bytes as stand beside it; so below.
+    unsafe { hess_choose(field.as_ptr(), field.len(), margin) }
+}
+
+/// The least score into the lent bytes; the refusal number.
+#[cfg(choice)]
+pub fn best(field: &[u8], out: &mut [u8]) -> u64 {
+    unsafe { hess_best(field.as_ptr(), field.len(), out.as_mut_ptr(), out.len()) }
+}
+
+/// Whether a change is held.
+#[cfg(choice)]
+pub fn held(pair: &[u8], margin: f64) -> Reply {
+    unsafe { hess_held(pair.as_ptr(), pair.len(), margin) }
+}
+
+/// Whether a change waits.
+#[cfg(choice)]
+pub fn waits(pair: &[u8], margin: f64) -> Reply {
+    unsafe { hess_waits(pair.as_ptr(), pair.len(), margin) }
+}

@@ -3,8 +3,12 @@
 mod bench;
 mod calls;
 mod entries;
+#[cfg(choice)]
+mod fields;
 mod flavours;
 mod random;
+#[cfg(choice)]
+mod rivals;
 mod scripts;
 mod single;
 
@@ -14,7 +18,11 @@ use std::time::Instant;
 
 fn main() {
     match std::env::args().nth(1).as_deref() {
-        Some("bench") => bench::bench(),
+        Some("bench") => {
+            bench::bench();
+            #[cfg(choice)]
+            bench::fields();
+        }
         _ => compare(),
     }
 }
@@ -39,6 +47,8 @@ fn compare() {
     for (n, (calls, refused)) in scripts.by_call.iter().enumerate() {
         println!("    {} {calls} ({refused})", name_of(n));
     }
+    #[cfg(choice)]
+    fields::Fields::run().print();
     println!(
         "no difference; {:.1} seconds",
         start.elapsed().as_secs_f64()

@@ -54,6 +54,7 @@ pub mod proto {
     }
 
     pub mod path {
+        pub mod choice;
         pub mod live;
         pub mod params;
         pub mod script;

@@ -32,7 +32,7 @@ fn some(value: Option<u64>) -> Values {
 }
 
 /// A length: a u32, 5 above 65,535.
-fn length(word: u64) -> Result<usize, u64> {
+pub(super) fn length(word: u64) -> Result<usize, u64> {
     match word as u32 {
         len if len > 65_535 => Err(5),
         len => Ok(len as usize),
@@ -45,7 +45,7 @@ fn whole(word: u64) -> Result<usize, u64> {
 }
 
 /// A duration: 6 from 2^62 on.
-fn duration(word: u64) -> Result<Duration, u64> {
+pub(super) fn duration(word: u64) -> Result<Duration, u64> {
     if word >= 1 << 62 {
         Err(6)
     } else {

@@ -1,2 +1,3 @@
 -- What the C functions reply.
 pub mod Entries
+pub mod Choice

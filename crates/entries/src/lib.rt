@@ -12,6 +12,8 @@ ghost use Rattle.entries.specs.Entries.{refused, given, deadlineReply, s
 use base::types::*;
 use seek::types::Ladder;
 
+pub mod choice;
+
 // A refusal number, 0 if accepted, and the value, 0 if refused.
 #[repr(C)]
 pub struct Reply {

@@ -1,0 +1,31 @@
+-- `entries::choice::of_held` meets its contract.
+-- Assumes nothing.
+use borrow.Author.Needs.{needs}
+use Rattle.entries.proofs.choice.of_held.Statement.{statement}
+use Rattle.entries.proofs.choice.of_held.Tie as tie
+
+enum-told : tie.Need-enum-told
+enum-told c = search needs
+
+enum-told-2 : tie.Need-enum-told-2
+enum-told-2 c = search needs
+
+enum-known-answer : tie.Need-enum-known-answer
+enum-known-answer c = search needs
+
+number-requires : tie.Need-number-requires
+number-requires c κs = search needs
+
+returns : tie.Need-returns
+returns c = rw (c .enum-told .given .1)
+
+returns-2 : tie.Need-returns-2
+returns-2 c = rw (c .enum-told2 .given .1)
+
+returns-3 : tie.Need-returns-3
+returns-3 c = rw (c .before .before .answer .given .1, c .number .ensures)
+
+pub of-held-spec : {M : Type 1} → statement M
+of-held-spec =
+    tie.close
+    (tie.spec enum-told enum-told-2 enum-known-answer number-requires returns returns-2 returns-3)

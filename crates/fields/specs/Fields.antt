@@ -1,0 +1,62 @@
+-- Rivals from bytes, for the host that runs the Rust's choice beside ours: twelve numbers of eight bytes for each: held, index, scored,
+-- score, timed, RTT, steadied, steady, based, base RTT, tier, marks (bit 0 preferred, 1 pinned, 2 fits, 4 and 5 the medium).
+use Prim.Native.Nat.{ℕ, zero, suc, _/_, _%_}
+use mathlib.Core.List.{List, [], _∷_}
+use mathlib.Core.Bool.{Bool}
+use lib.Dec.{eqb, ltb}
+use lib.Ieee.{Float, binary64, ofBits}
+use lib.ListN.{length, drop, replicate}
+use Rattle.base.specs.Seq.{pick}
+use Rattle.octets.specs.Octets.{readAt}
+use Rattle.select.specs.Rivals.{noRival}
+use Rattle.select.specs.declared.types.Medium.{Medium}
+use Rattle.select.specs.declared.types.Medium.the-variants as medium
+use Rattle.select.specs.declared.types.Role.{Role}
+use Rattle.select.specs.declared.types.Role.the-variants as role
+use Rattle.select.specs.declared.types.Rival.{Rival}
+
+-- the float of a pattern: every NaN's pattern is the one NaN's
+abbrev pub floatOf : ℕ → Float
+floatOf bits = ofBits binary64 bits
+
+-- an odd number is a mark that stands
+abbrev pub bitOf : ℕ → Bool
+bitOf x = eqb (x % 2) 1
+
+-- a medium and a role by their numbers in the Rust's order, modulo 4
+abbrev pub mediumOf : ℕ → Medium
+mediumOf x =
+    pick (eqb (x % 4) 0) medium.Ble (pick (eqb (x % 4) 1) medium.Wired (pick (eqb (x % 4) 2) medium.Wireless medium.Unknown))
+
+abbrev pub roleOf : ℕ → Role
+roleOf x = pick (eqb (x % 4) 0) role.Never (pick (eqb (x % 4) 1) role.Backup (pick (eqb (x % 4) 2) role.Normal role.Preferred))
+
+-- the rival at the front of the bytes
+unfoldable pub rivalFrom : List ℕ → Rival
+rivalFrom s =
+    record {
+      score = floatOf (readAt 24 8 s);
+      steady = floatOf (readAt 56 8 s);
+      rtt = readAt 40 8 s;
+      base = readAt 72 8 s;
+      index = readAt 8 8 s;
+      tier = readAt 80 8 s % 256;
+      held = bitOf (readAt 0 8 s);
+      scored = bitOf (readAt 16 8 s);
+      steadied = bitOf (readAt 48 8 s);
+      timed = bitOf (readAt 32 8 s);
+      based = bitOf (readAt 64 8 s);
+      preferred = bitOf (readAt 88 8 s);
+      pinned = bitOf (readAt 88 8 s / 2);
+      fits = bitOf (readAt 88 8 s / 4);
+      medium = mediumOf (readAt 88 8 s / 16);
+    }
+
+-- the first n rivals
+abbrev pub rivalsOf : ℕ → List ℕ → List Rival
+rivalsOf zero s = []
+rivalsOf (suc n) s = rivalFrom s ∷ rivalsOf n (drop 96 s)
+
+-- a field of eight rivals, empty where there are fewer bytes
+unfoldable pub fieldOf : List ℕ → List Rival
+fieldOf s = pick (ltb (length s) 768) (replicate 8 noRival) (rivalsOf 8 s)

@@ -1,0 +1,2 @@
+-- Rivals from bytes.
+pub mod Fields

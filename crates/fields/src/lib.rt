@@ -1,0 +1,94 @@
+// Rivals from bytes: twelve little-endian numbers of eight bytes for each.
+ghost use mathlib.Core.Path.{_≡_};
+ghost use Rattle.fields.specs.Fields.{floatOf, mediumOf, roleOf, bitOf, rivalFrom, fieldOf};
+use octets::get;
+use select::types::*;
+
+// The float of a pattern; every NaN's pattern gives the one NaN.
+pub fn float_of(bits: u64) -> f64
+    ensures { λ r. ⌜ r ≡ floatOf bits ⌝ }
+{
+    if bits % 9223372036854775808 > 9218868437227405312 {
+        0.0 / 0.0
+    } else {
+        f64::from_bits(bits)
+    }
+}
+
+// Whether bit 0 of a number that was divided by a power of two is set.
+fn bit(x: u64) -> bool
+    ensures { λ r. ⌜ r ≡ bitOf x ⌝ }
+{
+    x % 2 == 1
+}
+
+// A medium by its number, modulo 4.
+pub fn medium_of(x: u64) -> Medium
+    ensures { λ r. ⌜ r ≡ mediumOf x ⌝ }
+{
+    let n = x % 4;
+    match n {
+        0 => Medium::Ble,
+        1 => Medium::Wired,
+        2 => Medium::Wireless,
+        _ => Medium::Unknown,
+    }
+}
+
+// A role by its number, modulo 4.
+pub fn role_of(x: u64) -> Role
+    ensures { λ r. ⌜ r ≡ roleOf x ⌝ }
+{
+    let n = x % 4;
+    match n {
+        0 => Role::Never,
+        1 => Role::Backup,
+        2 => Role::Normal,
+        _ => Role::Preferred,
+    }
+}
+
+// The rival whose twelve numbers stand at the front of the bytes.
+pub fn rival_from(part: &[u8]) -> Rival
+    ensures { λ r. ⌜ r ≡ rivalFrom (now (part .entry)) ⌝ }
+{
+    let marks = get(part, 88, 8);
+    let medium = medium_of(marks / 16);
+    Rival {
+        score: float_of(get(part, 24, 8)),
+        steady: float_of(get(part, 56, 8)),
+        rtt: get(part, 40, 8),
+        base: get(part, 72, 8),
+        index: get(part, 8, 8) as usize,
+        tier: (get(part, 80, 8) % 256) as u8,
+        held: bit(get(part, 0, 8)),
+        scored: bit(get(part, 16, 8)),
+        steadied: bit(get(part, 48, 8)),
+        timed: bit(get(part, 32, 8)),
+        based: bit(get(part, 64, 8)),
+        preferred: bit(marks),
+        pinned: bit(marks / 2),
+        fits: bit(marks / 4),
+        medium: medium,
+    }
+}
+
+// A field of eight rivals from 768 bytes; an empty one where there are fewer.
+pub fn field_from(bytes: &[u8]) -> [Rival; 8]
+    ensures { λ r. ⌜ r ≡ fieldOf (now (bytes .entry)) ⌝ }
+{
+    let none = Rival::none();
+    let mut field = [none; 8];
+    if bytes.len() < 768 {
+        return field;
+    }
+    let mut i: usize = 0;
+    let mut at: usize = 0;
+    while i < 8 {
+        let r = rival_from(&bytes[at..]);
+        field[i] = r;
+        at += 96;
+        i += 1;
+    }
+    field
+}

@@ -1,0 +1,2 @@
+-- Scores of a path.
+pub mod Scores

@@ -1,0 +1,72 @@
+-- `select::scan::least` meets its contract: the loop folds what it takes. The measure is the places left.
+-- Assumes nothing.
+use Prim.Native.Nat.{_-_}
+use mathlib.Core.Path.{ap, sym, _∙_}
+use mathlib.Core.List.{List, foldl}
+use Rattle.base.specs.Seq.{keep}
+use Rattle.base.proofs.ScanLaws.{Folding, folding-start, folding-take, folding-skip, folding-end}
+use Rattle.select.specs.Scans.{takesOf, betterIn}
+use Rattle.select.specs.declared.types.Rival.{Rival}
+use Rattle.select.specs.declared.types.MaybeRival.the-variants.{None}
+use Rattle.select.proofs.PlaceLaws.{map-same}
+use borrow.Author.Needs.{needs}
+use Rattle.select.proofs.scan.least.Statement.{statement}
+use Rattle.select.proofs.scan.least.Tie as tie
+
+abbrev Inv-loop : tie.InvT-loop
+Inv-loop w field f₀ i₀ f i = Folding (takesOf w) (λ (r : Rival). r) (betterIn w) None field 8 f i
+
+abbrev μ-loop : tie.MeasureT-loop
+μ-loop w field f₀ i₀ f i = 8 - i
+
+loop-holds : tie.Need-loop-holds Inv-loop μ-loop
+loop-holds c = folding-start (search needs)
+
+mul-r : tie.Need-mul-r Inv-loop μ-loop
+mul-r c = search needs
+
+array-copy-out-r : tie.Need-array-copy-out-r Inv-loop μ-loop
+array-copy-out-r c = search needs
+
+add-i : tie.Need-add-i Inv-loop μ-loop
+add-i c = search needs
+
+takes-requires : tie.Need-takes-requires Inv-loop μ-loop
+takes-requires c κs = search needs
+
+better-requires : tie.Need-better-requires Inv-loop μ-loop
+better-requires c κs = search needs
+
+loop-less : tie.Need-loop-less Inv-loop μ-loop
+loop-less c = search needs
+
+loop-again : tie.Need-loop-again Inv-loop μ-loop
+loop-again c = folding-take _ (c .before .before .before .before .before .loop .inv) (search needs) (sym (c .before .before .takes .ensures) ∙ c .before .if1 .taken) (c .better .ensures)
+
+loop-less-2 : tie.Need-loop-less-2 Inv-loop μ-loop
+loop-less-2 c = search needs
+
+loop-again-2 : tie.Need-loop-again-2 Inv-loop μ-loop
+loop-again-2 c = folding-skip _ (c .before .before .before .before .loop .inv) (search needs) (sym (c .before .takes .ensures) ∙ c .if1 .left)
+
+returns : tie.Need-returns Inv-loop μ-loop
+returns c =
+    folding-end (c .before .loop .inv) (search needs) ∙ ap (λ (l : List Rival). foldl (betterIn (c .before .before .args .w)) None l) (map-same (keep (takesOf (c .before .before .args .w)) (c .before .before .args .t1)))
+
+pub least-spec : {M : Type 1} → statement M
+least-spec =
+    tie.close
+    (tie.spec
+    Inv-loop
+    μ-loop
+    loop-holds
+    mul-r
+    array-copy-out-r
+    add-i
+    takes-requires
+    better-requires
+    loop-less
+    loop-again
+    loop-less-2
+    loop-again-2
+    returns)

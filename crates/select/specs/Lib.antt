@@ -1,0 +1,8 @@
+-- What the choice among a link's paths is (document 01, "Choice", and the tail's last sentence on `Hold`).
+pub mod Media
+pub mod Rivals
+pub mod Choice
+pub mod Scans
+pub mod Hold
+pub mod Carried
+pub mod Answers

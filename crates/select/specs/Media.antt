@@ -1,0 +1,27 @@
+-- Roles and media (document 01, "Choice": "Wired, wireless, BLE is the speed order; unknown has none"; the tiers are the Rust's
+-- `tier`).
+use Prim.Native.Nat.{ℕ}
+use mathlib.Core.Bool.{Bool, _&&_}
+use lib.Dec.{ltb}
+use Rattle.select.specs.declared.types.Role.{Role}
+use Rattle.select.specs.declared.types.Role.the-variants as role
+use Rattle.select.specs.declared.types.Medium.{Medium}
+use Rattle.select.specs.declared.types.Medium.the-variants as medium
+
+-- a normal or preferred transport above a backup one, and one that is never to carry paths below both
+abbrev pub tierOf : Role → ℕ
+tierOf role.Never = 0
+tierOf role.Backup = 1
+tierOf role.Normal = 2
+tierOf role.Preferred = 2
+
+-- wired, wireless, BLE is the speed order; 3 stands for unknown, which has none
+abbrev pub speedOf : Medium → ℕ
+speedOf medium.Wired = 0
+speedOf medium.Wireless = 1
+speedOf medium.Ble = 2
+speedOf medium.Unknown = 3
+
+-- a is a quicker medium than b, both known
+abbrev pub quickerOf : Medium → Medium → Bool
+quickerOf a b = ltb (speedOf b) 3 && ltb (speedOf a) (speedOf b)

@@ -1,0 +1,113 @@
+// Which rivals are ranked.
+ghost use mathlib.Core.Path.{_≡_};
+ghost use Prim.Native.Nat.{max};
+ghost use Rattle.base.specs.Seq.{every};
+ghost use Rattle.select.specs.Rivals.{isLong, atPlace, placed};
+ghost use Rattle.select.specs.Scans.{isNamed, isRanked, asksOf, lacksOf, topOf, gateOf};
+use crate::types::*;
+
+// Whether a rival has a round trip of 2^62 or more.
+pub fn long(r: Rival) -> bool
+    ensures { λ k. ⌜ k ≡ isLong r ⌝ }
+{
+    (r.timed & (0x4000_0000_0000_0000 <= r.rtt)) | (r.based & (0x4000_0000_0000_0000 <= r.base))
+}
+
+// Whether a rival is one that the pins leave.
+fn named(pinned: bool, r: Rival) -> bool
+    ensures { λ k. ⌜ k ≡ isNamed pinned r ⌝ }
+{
+    r.held & (r.pinned | !pinned)
+}
+
+// Whether a gate lets a rival through.
+pub fn ranks(g: Gate, r: Rival) -> bool
+    ensures { λ k. ⌜ k ≡ isRanked g r ⌝ }
+{
+    (named(g.pinned, r) & (r.tier == g.top)) & (r.fits | !g.fit)
+}
+
+// Whether a rival has what a test asks for.
+fn asks(t: Test, r: Rival) -> bool
+    ensures { λ k. ⌜ k ≡ asksOf t r ⌝ }
+{
+    match t {
+        Test::Long => r.held & long(r),
+        Test::Pinned => r.held & r.pinned,
+        Test::Fits(pinned, top) => (named(pinned, r) & (r.tier == top)) & r.fits,
+    }
+}
+
+// Whether no rival has what a test asks for.
+pub fn none(field: [Rival; 8], t: Test) -> bool
+    ensures { λ k. ⌜ k ≡ every (lacksOf t) field ⌝ }
+{
+    let mut i: usize = 0;
+    while i < 8 {
+        let r = field[i];
+        if asks(t, r) {
+            return false;
+        }
+        i += 1;
+    }
+    true
+}
+
+// Whether a rival that is held has its place for index.
+fn at_place(r: Rival, place: usize) -> bool
+    ensures { λ k. ⌜ k ≡ atPlace place r ⌝ }
+{
+    !r.held | (r.index == place)
+}
+
+// Whether each rival has its place for index.
+pub fn in_place(field: [Rival; 8]) -> bool
+    ensures { λ k. ⌜ k ≡ placed 0 field ⌝ }
+{
+    let mut i: usize = 0;
+    while i < 8 {
+        let r = field[i];
+        if !at_place(r, i) {
+            return false;
+        }
+        i += 1;
+    }
+    true
+}
+
+// The higher of two tiers.
+fn higher(a: u8, b: u8) -> u8
+    ensures { λ k. ⌜ k ≡ max a b ⌝ }
+{
+    if a < b { b } else { a }
+}
+
+// The highest tier among those that the pins leave.
+fn top_tier(field: [Rival; 8], pinned: bool) -> u8
+    ensures { λ k. ⌜ k ≡ topOf pinned field ⌝ }
+{
+    let mut top: u8 = 0;
+    let mut i: usize = 0;
+    while i < 8 {
+        let r = field[i];
+        i += 1;
+        if named(pinned, r) {
+            top = higher(top, r.tier);
+        }
+    }
+    top
+}
+
+// Who is ranked in a field.
+pub fn gate_of(field: [Rival; 8]) -> Gate
+    ensures { λ g. ⌜ g ≡ gateOf field ⌝ }
+{
+    let pinned = !none(field, Test::Pinned);
+    let top = top_tier(field, pinned);
+    let fit = !none(field, Test::Fits(pinned, top));
+    Gate {
+        top: top,
+        pinned: pinned,
+        fit: fit,
+    }
+}

@@ -1,0 +1,37 @@
+// Roles and media.
+ghost use mathlib.Core.Path.{_≡_};
+ghost use Rattle.select.specs.Media.{tierOf, speedOf, quickerOf};
+use crate::types::*;
+
+// The tier of a role, higher ranking first.
+pub fn tier(role: Role) -> u8
+    ensures { λ r. ⌜ r ≡ tierOf role ⌝ }
+{
+    match role {
+        Role::Never => 0,
+        Role::Backup => 1,
+        Role::Normal => 2,
+        Role::Preferred => 2,
+    }
+}
+
+// The rank of a medium by speed, lower being faster, and 3 for one that has none.
+pub fn speed(medium: Medium) -> u8
+    ensures { λ r. ⌜ r ≡ speedOf medium ⌝ }
+{
+    match medium {
+        Medium::Wired => 0,
+        Medium::Wireless => 1,
+        Medium::Ble => 2,
+        Medium::Unknown => 3,
+    }
+}
+
+// Whether `a` is a faster medium than `b`, both known.
+pub fn quicker(a: Medium, b: Medium) -> bool
+    ensures { λ r. ⌜ r ≡ quickerOf a b ⌝ }
+{
+    let x = speed(a);
+    let y = speed(b);
+    (y < 3) & (x < y)
+}

@@ -1,0 +1,142 @@
+// What a choice is made of, and what its functions answer.
+ghost use mathlib.Core.Path.{_≡_};
+ghost use Rattle.select.specs.Rivals.{noRival};
+use base::types::Refusal;
+
+// Over what a path runs.
+pub enum Medium {
+    Ble,
+    Wired,
+    Wireless,
+    Unknown,
+}
+
+// What a transport is for.
+pub enum Role {
+    Never,
+    Backup,
+    Normal,
+    Preferred,
+}
+
+// A path that a choice may take, in its place of the field; where `held` is false there is none. Of score, steady, rtt and base the
+// mark (scored, steadied, timed, based) says whether there is one.
+pub struct Rival {
+    pub score: f64,
+    pub steady: f64,
+    pub rtt: u64,
+    pub base: u64,
+    pub index: usize,
+    pub tier: u8,
+    pub held: bool,
+    pub scored: bool,
+    pub steadied: bool,
+    pub timed: bool,
+    pub based: bool,
+    pub preferred: bool,
+    pub pinned: bool,
+    pub fits: bool,
+    pub medium: Medium,
+}
+
+impl Rival {
+    // No rival.
+    pub fn none() -> Self
+        ensures { λ r. ⌜ r ≡ noRival ⌝ }
+    {
+        let medium = Medium::Ble;
+        Rival {
+            score: 0.0,
+            steady: 0.0,
+            rtt: 0,
+            base: 0,
+            index: 0,
+            tier: 0,
+            held: false,
+            scored: false,
+            steadied: false,
+            timed: false,
+            based: false,
+            preferred: false,
+            pinned: false,
+            fits: false,
+            medium: medium,
+        }
+    }
+}
+
+// A rival, or none.
+pub enum MaybeRival {
+    None,
+    Some(Rival),
+}
+
+// A path message length, or none.
+pub enum MaybeSize {
+    None,
+    Some(u32),
+}
+
+// Who is ranked: the pinned, if any; of those the ones of the highest tier; of those the fitting, if any.
+pub struct Gate {
+    pub top: u8,
+    pub pinned: bool,
+    pub fit: bool,
+}
+
+// What a test over the field asks of a rival: a duration that is too long; a pin; in the highest tier that the pins leave, that it
+// fits.
+pub enum Test {
+    Long,
+    Pinned,
+    Fits(bool, u8),
+}
+
+// What a scan looks for among the ranked: the scored; the preferred near a limit; those near a limit over a quicker medium, preferred
+// ones only where one was picked; all, by their round trips.
+pub enum Want {
+    Scored(Gate),
+    Preferred(Gate, f64),
+    Quicker(Gate, f64, bool, Medium),
+    Timed(Gate),
+}
+
+// The answer of `choose`: the place of the path.
+pub enum Chosen {
+    Slot(usize),
+    Refused(Refusal),
+}
+
+// The answer of `best`: the least score, or that none is scored.
+pub enum BestAnswer {
+    Score(f64),
+    Unscored,
+    Refused(Refusal),
+}
+
+// The answer of `held` and `waits`: whether a change is held.
+pub enum HeldAnswer {
+    Held,
+    Free,
+    Refused(Refusal),
+}
+
+// The answer of `Hold::held`: the cost held, or that the hold is over.
+pub enum CostAnswer {
+    Cost(f64),
+    Over,
+    Refused(Refusal),
+}
+
+// The answer of `carried`: a frame's bytes.
+pub enum SizeAnswer {
+    Size(u32),
+    Refused(Refusal),
+}
+
+// The hold on a link's cost after a change of active path: the cost from before, the instant of the change, and the reports owed.
+pub struct Hold {
+    pub cost: f64,
+    pub at: u64,
+    pub owed: u8,
+}
