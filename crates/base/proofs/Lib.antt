@@ -4,4 +4,4 @@ pub mod MarkedLaws
 pub mod Cases
 pub mod BookLaws
 pub mod SerialLaws
-mod TimeLaws
+pub mod TimeLaws
