@@ -2,3 +2,4 @@
 mod TestLaws
 mod SearchLaws
 pub mod HalvingLaws
+pub mod ProvenLaws
