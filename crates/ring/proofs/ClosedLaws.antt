@@ -96,7 +96,7 @@ module _ (p : Sent → Bool) (f : Sent → MaybeTime) (free : p noSent ≡ false
       at-first : (u : MaybeTime)
           → scanOf p f (w ++ replicate m noSent) .ring ≡ scanOf p f w .ring ++ replicate m noSent
           → lapseOr u s (w ++ replicate m noSent) (scanOf p f (w ++ replicate m noSent)) .ring
-              ≡ lapseOr u s w (scanOf p f w) .ring ++ replicate m noSent
+          ≡ lapseOr u s w (scanOf p f w) .ring ++ replicate m noSent
       at-first None k = refl
       at-first (Some u) k = ap (λ (l : List Sent). withDue s u ∷ l) k
 
