@@ -47,7 +47,7 @@ bytesOf cs = wordsOf (answersOf newLiveness cs) ++ imageOf (runOf newLiveness cs
 
 -- 13 where the script ends inside a call, 16 where fewer bytes are lent than it needs
 unfoldable pub scriptNumber : List ℕ → ℕ → ℕ
-scriptNumber s lent = 
+scriptNumber s lent =
     cond (eqb (length s % 48) 0) (cond (ltb lent (length s + 1800)) (refusalNumber Lent) 0) (refusalNumber Cut)
 
 -- the lent bytes after it: the script's over their front, or as they were where it is refused

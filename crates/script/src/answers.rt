@@ -13,7 +13,14 @@ pub fn of_answer(path: Liveness, a: Answer) -> Called
     let s = a.sent();
     Called {
         path: path,
-        words: [a.number(), a.value(), s.probe_id as u64, s.at, s.due, s.len as u64],
+        words: [
+            a.number(),
+            a.value(),
+            s.probe_id as u64,
+            s.at,
+            s.due,
+            s.len as u64,
+        ],
     }
 }
 
@@ -94,6 +101,13 @@ pub fn of_matching(o: Outcome) -> Called
     let path = o.path;
     Called {
         path: path,
-        words: [answer.number(), base::flag::flag(answer.matching()), 0, 0, 0, 0],
+        words: [
+            answer.number(),
+            base::flag::flag(answer.matching()),
+            0,
+            0,
+            0,
+            0,
+        ],
     }
 }
