@@ -79,19 +79,19 @@ span-least now x horizon l h =
 
 -- 32 places for samples and 8 for spans
 pub record Sized (r : Rtts) : Type 0 where
-  pub samples : length (r .rtts) ≡ 32
+  pub samples : length (r .samples) ≡ 32
   pub spans : length (r .spans) ≡ 8
 
 -- nothing is measured: none of the three is there
 pub record Unmeasured (r : Rtts) : Type 0 where
   pub last : r .rtt ≡ None
-  pub least : minRtt (r .rtts) ≡ None
+  pub least : minRtt (r .samples) ≡ None
   pub base : baseRtt (r .spans) ≡ None
 
 -- x was measured last: all three are there, and none is above x
 pub record Measured (r : Rtts) (x : ℕ) : Type 0 where
   pub last : r .rtt ≡ Some x
-  pub least : Under x (minRtt (r .rtts))
+  pub least : Under x (minRtt (r .samples))
   pub base : Under x (baseRtt (r .spans))
 
 pub new-sized : Sized newRtts
@@ -105,7 +105,7 @@ pub sample-measured : (r : Rtts) (now x window horizon : ℕ) → Sized r → Me
 sample-measured r now x window horizon s =
     record {
       last = refl;
-      least = sample-least now x window (r .rtts) (omega arith);
+      least = sample-least now x window (r .samples) (omega arith);
       base = span-least now x horizon (r .spans) (omega arith);
     }
 
