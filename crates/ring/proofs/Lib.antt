@@ -1,3 +1,3 @@
 -- Laws that the proofs of several functions cite.
-mod LapseLaws
+pub mod LapseLaws
 mod SweepLaws
