@@ -11,7 +11,8 @@ use Rattle.base.specs.declared.types.MaybeTime.{MaybeTime}
 use Rattle.base.specs.declared.types.MaybeTime.the-variants.{None, Some}
 use Rattle.base.proofs.Cases.{on-flag, on-order, never}
 use Rattle.base.proofs.SeqLaws.{length-keep}
-use Rattle.base.proofs.BookLaws.{Holds, holds-kept, holds-packed, holds-more, every-keep}
+use Rattle.base.proofs.BookLaws.{Holds, holds-kept, holds-packed, holds-more}
+use Rattle.base.proofs.KeepLaws.{keep-passes}
 use Rattle.ring.specs.Ring.{maxWaiting, noSent, isUsed, isFree, firstFree, waiting, packed, takenOut, Closed}
 use Rattle.ring.specs.Lapse.{withDue, scanOf, lapseOr}
 use Rattle.ring.specs.declared.types.Sent.{Sent}
@@ -19,7 +20,7 @@ use Rattle.ring.specs.declared.lapse.Scanned.{Scanned}
 
 -- a closed ring holds its waiting probes and nothing else; and what holds some probes is closed
 holds-of : {l : List Sent} → Closed l → Holds isUsed noSent maxWaiting l (waiting l)
-holds-of {l} c = record { used = every-keep isUsed noSent refl l; fits = c .fits; full = c .shut }
+holds-of {l} c = record { used = keep-passes isUsed l; fits = c .fits; full = c .shut }
 
 closed-of : {l w : List Sent} → Holds isUsed noSent maxWaiting l w → Closed l
 closed-of {l} {w} h =
@@ -50,7 +51,7 @@ free-room {l} c h =
     (λ k.
     let z : maxWaiting - length (waiting l) ≡ 0 = omega arith in
     let s : l ≡ waiting l ++ [] = c .shut ∙ rw z in
-    let e : firstFree l ≡ length (waiting l) = ap firstFree s ∙ none-free (waiting l) (every-keep isUsed noSent refl l) in
+    let e : firstFree l ≡ length (waiting l) = ap firstFree s ∙ none-free (waiting l) (keep-passes isUsed l) in
     absurd (omega arith))
 
 -- one more at the first free place
@@ -114,7 +115,7 @@ module _ (p : Sent → Bool) (f : Sent → MaybeTime) (free : p noSent ≡ false
       let e : length (scanOf p f w .ring) ≡ length w = scan-long w in
       closed-of {w = scanOf p f w .ring}
       (record {
-        used = scan-used w (every-keep isUsed noSent refl l);
+        used = scan-used w (keep-passes isUsed l);
         fits = rw e (c .fits);
         full = ap (λ (r : List Sent). scanOf p f r .ring) (c .shut) ∙ rw (scan-front w (maxWaiting - length w), e);
       })
