@@ -1,10 +1,10 @@
--- What send, answer and expire make, from what their parts are. Each part is a variable here, so that a rewrite meets no more than
--- its name, however large a path is.
+-- What send, answer and expire make, from what their parts are. Each part is a variable here, so that a rewrite meets
+-- no more than its name, however large a path is.
 -- Assumes nothing.
 use Prim.Native.Nat.{ℕ, _<_, _≤_, _^_}
-use mathlib.Core.Path.{_≡_, refl, sym}
+use mathlib.Core.Path.{_≡_, sym}
 use mathlib.Core.List.{List}
-use mathlib.Core.Bool.{Bool, true, false, _||_}
+use mathlib.Core.Bool.{Bool}
 use borrow.Author.Tests.{lt-leb, le-leb, lt-ltb, le-ltb}
 use lib.ListN.{set, getD}
 use Rattle.base.specs.declared.types.Refusal.the-variants.{Length, Duration, Full, Unknown}

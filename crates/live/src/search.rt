@@ -8,7 +8,6 @@ use base::limits::MAX_LEN;
 use base::limits::MIN_LEN;
 use base::types::*;
 use seek::types::Ladder;
-use seek::types::Sizes;
 
 // A length, or the refusal where there is none.
 fn len_or(len: MaybeLen, why: Refusal) -> Answer
