@@ -10,7 +10,8 @@ use Rattle.live.specs.New.{newLiveness}
 use Rattle.live.specs.Answers.{answerValue}
 use Rattle.live.specs.Search.{seekSizeOf}
 use Rattle.live.specs.Times.{timeoutOf, spentOf}
-use Rattle.figures.specs.Paths.{millis, lapsed, nextSize, nextSizes, proven, fullLost, restOf, probes, sampled, spanCount, halted, gapOf}
+use Rattle.figures.specs.Paths.{millis, lapsed, nextSize, nextSizes, proven, fullLost, restOf, probes, sampled}
+use Rattle.figures.specs.Paths.{spanCount, halted, gapOf}
 
 -- the numbers of each figure, computed
 unfoldable pub figures : List (List ℕ)

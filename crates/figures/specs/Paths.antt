@@ -55,11 +55,15 @@ lost p = seekJudgeOf (answerOf (sendOf p 0 0 27 0 .path) (answerValue (sendOf p 
 abbrev pub fullLost : ℕ → ℕ → Liveness
 fullLost n full = lost (searched (proven n) full)
 
--- rest after a clearing, as it shows: the size out, the lost size, the refusal of `seek_size` 1 ns before 600 s, its
--- size at 600 s
+-- the size of the search probe that is out, 0 if none is
+abbrev pub sizeOut : Liveness → ℕ
+sizeOut p = p .sizes .seek .len
+
+-- rest after a clearing, as it shows: the size out, the lost size, the refusal of `seek_size` 1 ns before 600 s, its size
+-- at 600 s
 abbrev pub restOf : Liveness → ℕ → List ℕ
 restOf p full =
-    p .sizes .seek .len ∷
+    sizeOut p ∷
     p .sizes .seek .lost ∷
     answerNumber (seekSizeOf p full (seconds 600 - 1)) ∷
     answerValue (seekSizeOf p full (seconds 600)) ∷
@@ -67,12 +71,11 @@ restOf p full =
 
 -- the search probe that is out is acknowledged at its size
 abbrev pub acked : Liveness → Liveness
-acked p =
-    seekProvedOf (seekAnswerOf p (p .sizes .seek .«probe_id») 0 .path) (p .sizes .seek .len) (p .sizes .seek .len) 0 .path
+acked p = seekProvedOf (seekAnswerOf p (p .sizes .seek .«probe_id») 0 .path) (sizeOut p) (sizeOut p) 0 .path
 
 -- "full .. lost, the rest acknowledged"
 abbrev pub settled : Liveness → ℕ → Liveness
-settled p full = cond (eqb (p .sizes .seek .len) full) (lost p) (acked p)
+settled p full = cond (eqb (sizeOut p) full) (lost p) (acked p)
 
 -- how many search probes are sent, at most n, until no size is proposed
 abbrev pub probes : ℕ → Liveness → ℕ → ℕ

@@ -10,7 +10,8 @@ use Rattle.ring.specs.declared.types.Sent.{Sent}
 use Rattle.live.specs.declared.types.Liveness.{Liveness}
 use Rattle.live.specs.declared.types.Outcome.{Outcome}
 use Rattle.live.specs.declared.types.Answer.{Answer}
-use Rattle.live.specs.declared.types.Answer.the-variants.{Done, Id, InTime, Late, Idle, Lapsed, Len, Time, Flag, Refused}
+use Rattle.live.specs.declared.types.Answer.the-variants.{Done, Id, InTime, Late, Idle, Lapsed, Len, Time, Flag}
+use Rattle.live.specs.declared.types.Answer.the-variants.{Refused}
 
 -- the refusal number, 0 if accepted
 abbrev pub answerNumber : Answer → ℕ

@@ -47,8 +47,8 @@ newSent id at due n = record { at = at; due = due; «probe_id» = id; len = n; u
 abbrev pub sentLadder : Ladder → ℕ → Ladder
 sentLadder l n = record { last = len.Some n; fallen = l .fallen }
 
--- the probe s stands in the first free place under the next identifier; `since` is dropped if every waiting probe counts;
--- its size is the last one; `quiet` keeps the first send's instant
+-- the probe s stands in the first free place under the next identifier; `since` is dropped if every waiting probe
+-- counts; its size is the last one; `quiet` keeps the first send's instant
 abbrev pub sentPath : Liveness → Sent → Liveness
 sentPath p s =
     withRing

@@ -13,7 +13,7 @@ use Rattle.seek.specs.Search as search
 use Rattle.seek.specs.declared.types.Settled.{Settled}
 use Rattle.seek.specs.declared.types.Proved.{Proved}
 use Rattle.seek.specs.declared.types.Judged.{Judged}
-use Rattle.seek.specs.declared.types.Proving as seek
+use Rattle.seek.specs.declared.types.Proving.{Proving}
 use Rattle.live.specs.Path.{withIds, withSizes, withLadder, withMisses}
 use Rattle.live.specs.Answers.{refused, isAccepted}
 use Rattle.live.specs.Probe.{takeIdOf, sendOf}
@@ -42,7 +42,7 @@ sizeOf p full =
 -- ---- prove
 
 -- the path with the sizes that the rule gives, and its answer
-abbrev pub provedBy : Liveness → seek.Proving → Outcome
+abbrev pub provedBy : Liveness → Proving → Outcome
 provedBy p d = record { path = withSizes p (d .sizes); answer = Flag (d .changed) }
 
 -- 5 for a size above 65,535 or below 27; else the size is proven

@@ -1,6 +1,7 @@
 // Sizes: the ladder, the proven size and the upward search.
 ghost use mathlib.Core.Path.{_≡_};
-ghost use Rattle.live.specs.Search.{freshOf, lenOr, sizeOf, seekSizeOf, proveOf, seekSendOf, ringed, seekRingOf, seekAnswerOf, seekProvedOf, seekJudgeOf};
+ghost use Rattle.live.specs.Search.{freshOf, lenOr, sizeOf, seekSizeOf, proveOf, seekSendOf, ringed, seekRingOf};
+ghost use Rattle.live.specs.Search.{seekAnswerOf, seekProvedOf, seekJudgeOf};
 use crate::answers::refused;
 use crate::types::*;
 use base::limits::DURATION_END;

@@ -11,8 +11,10 @@ use Rattle.rtt.specs.Spans.{baseRtt}
 use Rattle.stop.specs.Silence.{stoppedOf, heldUntil, recheckOf}
 use Rattle.live.specs.New.{newLiveness, roomOf}
 use Rattle.live.specs.Probe.{takeIdOf, sendOf, answerOf, expireOf, lapseOf, clearOf, thawOf}
-use Rattle.live.specs.Search.{freshOf, sizeOf, proveOf, seekSizeOf, seekSendOf, seekRingOf, seekAnswerOf, seekProvedOf, seekJudgeOf}
-use Rattle.live.specs.Times.{sampleOf, foldedOf, timeoutOf, heardOf, carriedOf, shedOf, haltedOf, spentOf, owedOf, rebasedOf}
+use Rattle.live.specs.Search.{freshOf, sizeOf, proveOf, seekSizeOf, seekSendOf, seekRingOf, seekAnswerOf, seekProvedOf}
+use Rattle.live.specs.Search.{seekJudgeOf}
+use Rattle.live.specs.Times.{sampleOf, foldedOf, timeoutOf, heardOf, carriedOf, shedOf, haltedOf, spentOf, owedOf}
+use Rattle.live.specs.Times.{rebasedOf}
 use Rattle.live.specs.declared.types.Liveness.{Liveness}
 use Rattle.image.specs.Image.{etxBits}
 use Rattle.scores.specs.Scores.{pathScore, pathSteady}
