@@ -1,6 +1,6 @@
 -- Answers as six numbers: the refusal number, 0 if accepted, then the values, 0 where there are fewer than five.
 use Prim.Native.Nat.{ℕ}
-use mathlib.Core.List.{List, [], _∷_}
+use mathlib.Core.List.{[], _∷_}
 use Rattle.base.specs.Seq.{flagOf}
 use Rattle.base.specs.declared.types.Refusal.the-variants.{Kind}
 use Rattle.base.specs.declared.types.MaybeTime.{MaybeTime}

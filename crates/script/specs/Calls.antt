@@ -1,7 +1,6 @@
--- The calls of a script, by their numbers: each method's definition on the numbers of the call, and its answer as numbers. A number
--- wider than a method's parameter is taken modulo its width; a flag is set if its number is odd.
+-- The calls of a script, by their numbers: each method's definition on the numbers of the call, and its answer as
+-- numbers. A number wider than a method's parameter is taken modulo its width; a flag is set if its number is odd.
 use Prim.Native.Nat.{ℕ, _%_, _^_}
-use mathlib.Core.List.{List}
 use mathlib.Core.Bool.{Bool, true, cond}
 use lib.Dec.{eqb, ltb}
 use Rattle.base.specs.Seq.{flagOf}
@@ -12,8 +11,10 @@ use Rattle.rtt.specs.Spans.{baseRtt}
 use Rattle.stop.specs.Silence.{stoppedOf, heldUntil, recheckOf}
 use Rattle.live.specs.New.{newLiveness, roomOf}
 use Rattle.live.specs.Probe.{takeIdOf, sendOf, answerOf, expireOf, lapseOf, clearOf, thawOf}
-use Rattle.live.specs.Search.{freshOf, sizeOf, proveOf, seekSizeOf, seekSendOf, seekRingOf, seekAnswerOf, seekProvedOf, seekJudgeOf}
-use Rattle.live.specs.Times.{sampleOf, foldedOf, timeoutOf, heardOf, carriedOf, shedOf, haltedOf, spentOf, owedOf, rebasedOf}
+use Rattle.live.specs.Search.{freshOf, sizeOf, proveOf, seekSizeOf, seekSendOf, seekRingOf, seekAnswerOf, seekProvedOf}
+use Rattle.live.specs.Search.{seekJudgeOf}
+use Rattle.live.specs.Times.{sampleOf, foldedOf, timeoutOf, heardOf, carriedOf, shedOf, haltedOf, spentOf, owedOf}
+use Rattle.live.specs.Times.{rebasedOf}
 use Rattle.live.specs.declared.types.Liveness.{Liveness}
 use Rattle.image.specs.Image.{etxBits}
 use Rattle.scores.specs.Scores.{pathScore, pathSteady}

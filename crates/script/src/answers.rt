@@ -1,6 +1,7 @@
 // Answers as numbers: the refusal number or 0, then the values, 0 where there are fewer than five.
 ghost use mathlib.Core.Path.{_≡_};
-ghost use Rattle.script.specs.Answers.{answered, outcome, plain, valued, tagged, timed, sized, scored, matched, kindless};
+ghost use Rattle.script.specs.Answers.{answered, outcome, plain, valued, tagged, timed, sized, scored, matched};
+ghost use Rattle.script.specs.Answers.{kindless};
 use crate::types::Called;
 use base::types::*;
 use live::types::*;
