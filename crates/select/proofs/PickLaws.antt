@@ -8,13 +8,13 @@ use Rattle.base.specs.Seq.{every}
 use Rattle.base.specs.declared.types.Refusal.the-variants.{Duration, Index, NoPath}
 use Rattle.select.specs.Rivals.{placed, byScore, byMedium, byTrip}
 use Rattle.select.specs.Choice.{rankedOf, limitOf, firstBy, orElse, scoredOf, nearOf, preferredOf, quickOf, quickest, amongScored, amongRanked, pickedOf, isLongHeld, slotOf, chooseOf, bestScore, bestOf}
-use Rattle.select.specs.Scans.{lacksOf, gateOf, scanOf}
+use Rattle.select.specs.Passes.{lacksOf, gateOf, scanOf}
 use Rattle.select.specs.declared.types.Rival.{Rival}
-use Rattle.select.specs.declared.types.Gate.{Gate}
+use Rattle.select.specs.declared.passes.Gate.{Gate}
 use Rattle.select.specs.declared.types.MaybeRival.{MaybeRival}
 use Rattle.select.specs.declared.types.MaybeRival.the-variants.{None, Some}
-use Rattle.select.specs.declared.types.Test.the-variants as test
-use Rattle.select.specs.declared.types.Want.the-variants.{Scored, Preferred, Quicker, Timed}
+use Rattle.select.specs.declared.passes.Test.the-variants as test
+use Rattle.select.specs.declared.passes.Want.the-variants.{Scored, Preferred, Quicker, Timed}
 use Rattle.select.specs.declared.types.Chosen.{Chosen}
 use Rattle.select.specs.declared.types.Chosen.the-variants as chosen
 use Rattle.select.specs.declared.types.BestAnswer.{BestAnswer}

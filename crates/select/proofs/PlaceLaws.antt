@@ -35,8 +35,3 @@ module _ {l : List Rival} {n : ℕ} where
   placing-end {i} s h =
       let k : length l ≤ i = omega arith in
       sym (rw drop-of-length-le at (s .rest))
-
--- a map that changes nothing
-pub map-same : {A : Type 0} (l : List A) → map (λ (x : A). x) l ≡ l
-map-same [] = refl
-map-same (x ∷ l) = rw (map-same l)

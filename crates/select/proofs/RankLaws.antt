@@ -1,22 +1,27 @@
 -- The scans of the code keep what the lists of specs/Choice.antt keep.
 -- Assumes nothing.
-use Prim.Native.Nat.{ℕ}
+use Prim.Native.Nat.{ℕ, max}
 use mathlib.Core.Path.{_≡_, refl, ap, sym, _∙_}
 use mathlib.Core.Bool.{Bool, true, false, not, cond, _&&_, _||_}
-use mathlib.Core.List.{List}
+use mathlib.Core.List.{List, map, foldl}
 use lib.Dec.{eqb}
 use lib.Ieee.{Float, le}
 use Rattle.base.specs.Seq.{every, keep}
 use Rattle.base.proofs.Cases.{on-flag}
 use Rattle.select.specs.Media.{quickerOf}
 use Rattle.select.specs.Rivals.{isLong, byScore, byMedium, byTrip}
-use Rattle.select.specs.Choice.{noneIs, onlyAny, rivalsOf, namedOf, highestOf, highOf, rankedOf, firstBy, scoredOf, nearOf, preferredOf, quickOf, isLongHeld}
-use Rattle.select.specs.Scans.{isNamed, isRanked, asksOf, lacksOf, topOf, gateFrom, gateOf, takesOf, scanOf}
+use Rattle.select.specs.Choice.{noneIs, onlyAny, rivalsOf, namedOf, highOf, rankedOf, firstBy, scoredOf, nearOf, preferredOf, quickOf, isLongHeld}
+use Rattle.select.specs.Passes.{isNamed, isRanked, asksOf, lacksOf, topOf, gateFrom, gateOf, takesOf, scanOf}
 use Rattle.select.specs.declared.types.Rival.{Rival}
 use Rattle.select.specs.declared.types.Medium.{Medium}
-use Rattle.select.specs.declared.types.Test.the-variants as test
-use Rattle.select.specs.declared.types.Want.the-variants.{Scored, Preferred, Quicker, Timed}
+use Rattle.select.specs.declared.passes.Test.the-variants as test
+use Rattle.select.specs.declared.passes.Want.the-variants.{Scored, Preferred, Quicker, Timed}
+use Rattle.base.proofs.LeastLaws.{unexceeded}
 use Rattle.base.proofs.KeepLaws.{keep-same, keep-keep, none-keep, only-keep}
+
+-- the largest tier of a list, as the code's pass has it
+abbrev highestOf : List Rival → ℕ
+highestOf l = foldl max 0 (map (λ r. r .tier) l)
 
 -- 6 over the held rivals
 pub long-is : (l : List Rival) → isLongHeld l ≡ not (every (lacksOf test.Long) l)
@@ -34,7 +39,8 @@ fit-is : (q : Rival → Bool) (l : List Rival) → onlyAny (λ r. r .fits) (high
 fit-is q l =
     let t : ℕ = highestOf (keep q l) in
     let h : Rival → Bool = λ r. q r && eqb (r .tier) t in
-    ap (λ (m : List Rival). onlyAny (λ (r : Rival). r .fits) m) (keep-keep (λ (r : Rival). eqb (r .tier) t) q l)
+    ap (λ (m : List Rival). onlyAny (λ (r : Rival). r .fits) m)
+    (unexceeded (λ (r : Rival). r .tier) (keep q l) ∙ keep-keep (λ (r : Rival). eqb (r .tier) t) q l)
     ∙ ap (λ (n : Bool). cond n (keep h l) (keep (λ (r : Rival). r .fits) (keep h l))) (none-keep (λ (r : Rival). r .fits) h l)
     ∙ only-keep (λ (r : Rival). r .fits) h (every (λ (x : Rival). not (h x && x .fits)) l) l
 

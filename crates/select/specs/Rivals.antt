@@ -11,6 +11,10 @@ use Rattle.select.specs.Media.{speedOf}
 use Rattle.select.specs.declared.types.Rival.{Rival}
 use Rattle.select.specs.declared.types.Medium.the-variants.{Ble}
 
+-- the paths of a peer, and so the places of a field, `PATH_MAX_PER_PEER`
+abbrev pub maxPaths : ℕ
+maxPaths = 8
+
 -- a place of the field with no rival
 abbrev pub noRival : Rival
 noRival =
@@ -46,6 +50,10 @@ placed n [] = true
 placed n (r ∷ l) = cond (atPlace n r) (placed (suc n) l) false
 
 -- ---- the orders: a comes before b
+
+-- the highest tier first
+abbrev pub byTier : Rival → Rival → Bool
+byTier a b = ltb (b .tier) (a .tier)
 
 -- by score, then index, by totalOrder
 abbrev pub byScore : Rival → Rival → Bool

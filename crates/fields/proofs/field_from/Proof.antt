@@ -7,13 +7,13 @@ use mathlib.Core.Path.{ap, sym, _∙_}
 use lib.ListN.{length, replicate}
 use denote.Ref.{now}
 use Rattle.select.specs.declared.types.Rival.{Rival}
-use Rattle.fields.specs.Fields.{rivalFrom}
+use Rattle.fields.specs.Fields.{fieldLen, rivalFrom}
 use Rattle.fields.proofs.FieldLaws.{Taking, taking-start, taking-next, taking-end, tail-from, field-short}
 use Rattle.fields.proofs.field_from.Statement.{statement}
 use Rattle.fields.proofs.field_from.Tie as tie
 
 abbrev Inv-loop : tie.InvT-loop
-Inv-loop bytes field₀ i₀ at₀ field i at = (768 ≤ length bytes) × Taking bytes 8 field i at
+Inv-loop bytes field₀ i₀ at₀ field i at = (fieldLen ≤ length bytes) × Taking bytes 8 field i at
 
 abbrev μ-loop : tie.MeasureT-loop
 μ-loop bytes field₀ i₀ at₀ field i at = 8 - i

@@ -4,7 +4,7 @@ use Prim.Native.Nat.{_-_}
 use mathlib.Core.Path.{ap, sym, _∙_}
 use mathlib.Core.Bool.{not}
 use Rattle.base.proofs.SeqLaws.{Passed, passed-start, passed-not, passed-next, passed-end}
-use Rattle.select.specs.Scans.{lacksOf}
+use Rattle.select.specs.Passes.{lacksOf}
 use borrow.Author.Needs.{needs}
 use Rattle.select.proofs.gate.none.Statement.{statement}
 use Rattle.select.proofs.gate.none.Tie as tie

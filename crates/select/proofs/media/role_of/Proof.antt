@@ -1,9 +1,9 @@
--- `fields::role_of` meets its contract.
+-- `select::media::role_of` meets its contract.
 -- Assumes nothing.
 use borrow.Author.Needs.{needs}
 use borrow.Author.Tests.{ne-eqb}
-use Rattle.fields.proofs.role_of.Statement.{statement}
-use Rattle.fields.proofs.role_of.Tie as tie
+use Rattle.select.proofs.media.role_of.Statement.{statement}
+use Rattle.select.proofs.media.role_of.Tie as tie
 
 returns : tie.Need-returns
 returns c = rw (c .match .keys1)

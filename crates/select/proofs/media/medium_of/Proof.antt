@@ -1,9 +1,9 @@
--- `fields::medium_of` meets its contract.
+-- `select::media::medium_of` meets its contract.
 -- Assumes nothing.
 use borrow.Author.Needs.{needs}
 use borrow.Author.Tests.{ne-eqb}
-use Rattle.fields.proofs.medium_of.Statement.{statement}
-use Rattle.fields.proofs.medium_of.Tie as tie
+use Rattle.select.proofs.media.medium_of.Statement.{statement}
+use Rattle.select.proofs.media.medium_of.Tie as tie
 
 returns : tie.Need-returns
 returns c = rw (c .match .keys1)
