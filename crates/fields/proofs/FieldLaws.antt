@@ -1,11 +1,11 @@
 -- One rival of a field after the other.
 -- Assumes nothing.
-use Prim.Native.Nat.{ℕ, zero, suc, _+_, _-_, _*_, _/_, _%_, _<_, _≤_}
+use Prim.Native.Nat.{ℕ, suc, _+_, _-_, _*_, _/_, _%_, _<_, _≤_}
 use mathlib.Core.Bool.{Bool}
 use lib.Ieee.{Float}
 use Rattle.octets.specs.Octets.{readAt}
 use Rattle.select.specs.declared.types.Medium.{Medium}
-use mathlib.Core.Path.{_≡_, refl, sym, ap, _∙_}
+use mathlib.Core.Path.{_≡_, sym, ap, _∙_}
 use mathlib.Core.List.{List, [], _∷_, _++_, append-assoc, append-nil}
 use native.Mathlib.Omega.{arith}
 use native.Mathlib.Numerals.{add-one}
@@ -35,7 +35,8 @@ taking-start {s} {n} {out} h =
 pub tail-from : (s : List ℕ) (at : ℕ) → midOf at (length s - at) s ≡ drop at s
 tail-from s at = take-all (length s - at) (drop at s) (le-of-eq (length-drop at s))
 
-pub taking-next : {s : List ℕ} {n : ℕ} {out : List Rival} {i at : ℕ} {r : Rival} → Taking s n out i at → i < n → r ≡ rivalFrom (drop at s)
+pub taking-next : {s : List ℕ} {n : ℕ} {out : List Rival} {i at : ℕ} {r : Rival} → Taking s n out i at → i < n
+    → r ≡ rivalFrom (drop at s)
     → Taking s n (set out i r) (i + 1) (at + rivalLen)
 taking-next {s} {n} {out} {i} {at} {r} t h e =
     let k : n - i ≡ suc (n - (i + 1)) = omega arith in
@@ -43,7 +44,8 @@ taking-next {s} {n} {out} {i} {at} {r} t h e =
     let q : take (i + 1) (set out i r) ≡ take i out ++ (r ∷ []) = rw add-one (take-suc-set out i r l) in
     let d : drop rivalLen (drop at s) ≡ drop (at + rivalLen) s = drop-drop rivalLen at s in
     let x : rivalsFrom n s ≡ take i out ++ rivalsFrom (suc (n - (i + 1))) (drop at s) = rw k at (t .done) in
-    let y : rivalsFrom (suc (n - (i + 1))) (drop at s) ≡ r ∷ rivalsFrom (n - (i + 1)) (drop (at + rivalLen) s) = rw (d, sym e) in
+    let y : rivalsFrom (suc (n - (i + 1))) (drop at s) ≡ r ∷ rivalsFrom (n - (i + 1)) (drop (at + rivalLen) s) = rw
+    (d, sym e) in
     record {
       upto = omega arith;
       place = omega (arith, t .place);
@@ -54,7 +56,8 @@ taking-next {s} {n} {out} {i} {at} {r} t h e =
           ∙ ap (λ (z : List Rival). z ++ rivalsFrom (n - (i + 1)) (drop (at + rivalLen) s)) (sym q);
     }
 
-pub taking-end : {s : List ℕ} {out : List Rival} {i at : ℕ} → Taking s 8 out i at → 8 ≤ i → fieldLen ≤ length s → out ≡ fieldOf s
+pub taking-end : {s : List ℕ} {out : List Rival} {i at : ℕ} → Taking s 8 out i at → 8 ≤ i → fieldLen ≤ length s
+    → out ≡ fieldOf s
 unfolding fieldOf
 taking-end {s} {out} {i} {at} t h k =
     let z : 8 - i ≡ 0 = omega arith in
@@ -68,10 +71,14 @@ unfolding fieldOf
 field-short s h = rw (lt-ltb (length s) fieldLen h)
 
 -- a rival from its parts
-pub rival-made : (s : List ℕ) {score steady : Float} {rtt base index t : ℕ} {held scored steadied timed based preferred pinned fits : Bool} {medium : Medium}
-    → score ≡ floatOf (readAt 24 8 s) → steady ≡ floatOf (readAt 56 8 s) → rtt ≡ readAt 40 8 s → base ≡ readAt 72 8 s → index ≡ readAt 8 8 s
-    → t ≡ readAt 80 8 s → held ≡ bitOf (readAt 0 8 s) → scored ≡ bitOf (readAt 16 8 s) → steadied ≡ bitOf (readAt 48 8 s)
-    → timed ≡ bitOf (readAt 32 8 s) → based ≡ bitOf (readAt 64 8 s) → preferred ≡ bitOf (readAt 88 8 s) → pinned ≡ bitOf (readAt 88 8 s / 2)
+pub rival-made : (s : List ℕ) {score steady : Float} {rtt base index t : ℕ}
+    {held scored steadied timed based preferred pinned fits : Bool} {medium : Medium}
+    → score ≡ floatOf (readAt 24 8 s) → steady ≡ floatOf (readAt 56 8 s) → rtt ≡ readAt 40 8 s → base ≡ readAt 72 8 s
+    → index ≡ readAt 8 8 s
+    → t ≡ readAt 80 8 s → held ≡ bitOf (readAt 0 8 s) → scored ≡ bitOf (readAt 16 8 s)
+    → steadied ≡ bitOf (readAt 48 8 s)
+    → timed ≡ bitOf (readAt 32 8 s) → based ≡ bitOf (readAt 64 8 s) → preferred ≡ bitOf (readAt 88 8 s)
+    → pinned ≡ bitOf (readAt 88 8 s / 2)
     → fits ≡ bitOf (readAt 88 8 s / 4) → medium ≡ mediumOf (readAt 88 8 s / 16)
     → _≡_ {A = Rival} (record {
       score = score;

@@ -1,23 +1,41 @@
--- What is true of every choice: the chosen one is a held rival, pinned if any is, of the highest tier of those, and fitting if any of
--- these fits; and one is chosen exactly if the field is not empty.
+-- What is true of every choice: the chosen one is a held rival, pinned if any is, of the highest tier of those, and
+-- fitting if any of these fits; and one is chosen exactly if the field is not empty.
 -- Assumes nothing.
-use Prim.Native.Nat.{ℕ, zero, suc, _+_, max, _<_, _≤_}
+use Prim.Native.Nat.{ℕ, zero, suc, _+_, _<_}
 use mathlib.Core.Path.{_≡_, refl, ap, sym, _∙_}
 use mathlib.Core.Bool.{Bool, true, false, not, cond, _&&_, _||_}
 use mathlib.Core.List.{List, [], _∷_, _++_}
 use native.Mathlib.Omega.{arith}
-use lib.Dec.{eqb, leb}
 use lib.ListN.{length, getD}
 use lib.Ieee.{Float, binary64, mul}
 use Rattle.base.specs.Seq.{every, keep}
-use Rattle.base.proofs.Cases.{on-flag, on-order, never}
-use borrow.Author.Tests.{le-leb, eqb-true, eq-eqb, not-true}
+use Rattle.base.proofs.Cases.{on-flag, never}
+use borrow.Author.Tests.{eqb-true, not-true}
 use Rattle.base.specs.First.{headOf, unbeaten}
 use Rattle.base.proofs.KeepLaws.{anyIn, every-head, every-tail, every-keep, keep-passes, keep-any, keep-from}
-use Rattle.base.proofs.FirstLaws.{Strict, First, first-passes, first-cases}
+use Rattle.base.proofs.FirstLaws.{Strict, first-passes, first-cases}
 use Rattle.base.proofs.ScanLaws.{every-of}
-use Rattle.select.specs.Rivals.{noRival, isLong, atPlace, placed, byTier, byScore, byMedium, byTrip}
-use Rattle.select.specs.Choice.{noneIs, onlyAny, rivalsOf, namedOf, highOf, rankedOf, firstBy, orElse, scoredOf, nearOf, preferredOf, quickOf, quickest, amongScored, amongRanked, pickedOf, isLongHeld, slotOf, chooseOf}
+use Rattle.select.specs.Rivals.{noRival, isLong, atPlace, placed, byTier, byScore, byMedium}
+use Rattle.select.specs.Choice.{
+  noneIs,
+  onlyAny,
+  rivalsOf,
+  namedOf,
+  highOf,
+  rankedOf,
+  firstBy,
+  orElse,
+  scoredOf,
+  nearOf,
+  preferredOf,
+  quickOf,
+  quickest,
+  amongRanked,
+  pickedOf,
+  isLongHeld,
+  slotOf,
+  chooseOf,
+}
 use Rattle.select.specs.Answers.{chosenValue}
 use Rattle.base.specs.declared.types.Refusal.the-variants.{Duration, Index, NoPath}
 use Rattle.select.specs.declared.types.Chosen.{Chosen}
@@ -38,7 +56,8 @@ module _ (p : Rival → Bool) where
   every-only : (q : Rival → Bool) (l : List Rival) → every p l ≡ true → every p (onlyAny q l) ≡ true
   every-only q l e = on-flag (noneIs q l) (λ f. rw f e) (λ f. rw f (every-keep p q l e))
 
-  first-by-passes : {before : Rival → Rival → Bool} → Strict before → (l : List Rival) → every p l ≡ true → passes p (firstBy before l) ≡ true
+  first-by-passes : {before : Rival → Rival → Bool} → Strict before → (l : List Rival) → every p l ≡ true
+      → passes p (firstBy before l) ≡ true
   first-by-passes order l h =
       first-cases order None Some (λ (f : MaybeRival). passes p f ≡ true) l (λ e. refl) (λ x f. first-passes p f h)
 
@@ -46,23 +65,31 @@ module _ (p : Rival → Bool) where
   else-passes (Some a) r e h = e
   else-passes None r e h = h
 
-  quickest-passes : (near : List Rival) (least : Rival) (f : MaybeRival) → every p near ≡ true → p least ≡ true → passes p f ≡ true → passes p (quickest near least f) ≡ true
+  quickest-passes : (near : List Rival) (least : Rival) (f : MaybeRival) → every p near ≡ true → p least ≡ true
+      → passes p f ≡ true → passes p (quickest near least f) ≡ true
   quickest-passes near least (Some a) h e k =
-      else-passes (firstBy byMedium (quickOf (a .medium) (preferredOf near))) a (first-by-passes medium-strict (quickOf (a .medium) (preferredOf near)) (every-keep p _ (preferredOf near) (every-keep p _ near h))) k
+      else-passes (firstBy byMedium (quickOf (a .medium) (preferredOf near))) a
+      (first-by-passes medium-strict (quickOf (a .medium) (preferredOf near))
+      (every-keep p _ (preferredOf near) (every-keep p _ near h))) k
   quickest-passes near least None h e k =
-      else-passes (firstBy byMedium (quickOf (least .medium) near)) least (first-by-passes medium-strict (quickOf (least .medium) near) (every-keep p _ near h)) e
+      else-passes (firstBy byMedium (quickOf (least .medium) near)) least
+      (first-by-passes medium-strict (quickOf (least .medium) near) (every-keep p _ near h)) e
 
-  among-passes : (l : List Rival) (margin : Float) (f : MaybeRival) → every p l ≡ true → passes p f ≡ true → passes p (amongRanked l margin f) ≡ true
+  among-passes : (l : List Rival) (margin : Float) (f : MaybeRival) → every p l ≡ true → passes p f ≡ true
+      → passes p (amongRanked l margin f) ≡ true
   among-passes l margin (Some least) h e =
       let near : List Rival = nearOf (mul binary64 (least .score) margin) l in
       let k : every p near ≡ true = every-keep p _ (scoredOf l) (every-keep p _ l h) in
-      quickest-passes near least (firstBy byScore (preferredOf near)) k e (first-by-passes score-strict (preferredOf near) (every-keep p _ near k))
+      quickest-passes near least (firstBy byScore (preferredOf near)) k e
+      (first-by-passes score-strict (preferredOf near) (every-keep p _ near k))
   among-passes l margin None h e = first-by-passes trip-strict l h
 
   -- what each ranked one passes, the picked one passes
-  pub picked-passes : (l : List Rival) (margin : Float) → every p (rankedOf l) ≡ true → passes p (pickedOf l margin) ≡ true
+  pub picked-passes : (l : List Rival) (margin : Float) → every p (rankedOf l) ≡ true
+      → passes p (pickedOf l margin) ≡ true
   unfolding pickedOf
-  picked-passes l margin h = among-passes (rankedOf l) margin (firstBy byScore (scoredOf (rankedOf l))) h (first-by-passes score-strict (scoredOf (rankedOf l)) (every-keep p _ (rankedOf l) h))
+  picked-passes l margin h = among-passes (rankedOf l) margin (firstBy byScore (scoredOf (rankedOf l))) h
+      (first-by-passes score-strict (scoredOf (rankedOf l)) (every-keep p _ (rankedOf l) h))
 
 -- ---- what the ranked pass
 
@@ -72,21 +99,26 @@ only-passes q l e = rw e (keep-passes q l)
 
 ranked-named : (p : Rival → Bool) (l : List Rival) → every p (namedOf l) ≡ true → every p (rankedOf l) ≡ true
 unfolding rankedOf
-ranked-named p l h = every-only p (λ (r : Rival). r .fits) (highOf (namedOf l)) (every-keep p (unbeaten byTier (namedOf l)) (namedOf l) h)
+ranked-named p l h = every-only p (λ (r : Rival). r .fits) (highOf (namedOf l))
+    (every-keep p (unbeaten byTier (namedOf l)) (namedOf l) h)
 
 ranked-held : (l : List Rival) → every (λ r. r .held) (rankedOf l) ≡ true
 ranked-held l =
-    ranked-named (λ (r : Rival). r .held) l (every-only (λ (r : Rival). r .held) (λ (r : Rival). r .pinned) (rivalsOf l) (keep-passes (λ (r : Rival). r .held) l))
+    ranked-named (λ (r : Rival). r .held) l (every-only (λ (r : Rival). r .held) (λ (r : Rival). r .pinned) (rivalsOf l)
+    (keep-passes (λ (r : Rival). r .held) l))
 
-ranked-pinned : (l : List Rival) → noneIs (λ r. r .pinned) (rivalsOf l) ≡ false → every (λ r. r .pinned) (rankedOf l) ≡ true
+ranked-pinned : (l : List Rival) → noneIs (λ r. r .pinned) (rivalsOf l) ≡ false
+    → every (λ r. r .pinned) (rankedOf l) ≡ true
 ranked-pinned l e = ranked-named (λ (r : Rival). r .pinned) l (only-passes (λ (r : Rival). r .pinned) (rivalsOf l) e)
 
 ranked-tier : (l : List Rival) → every (unbeaten byTier (namedOf l)) (rankedOf l) ≡ true
 unfolding rankedOf
 ranked-tier l =
-    every-only (unbeaten byTier (namedOf l)) (λ (r : Rival). r .fits) (highOf (namedOf l)) (keep-passes (unbeaten byTier (namedOf l)) (namedOf l))
+    every-only (unbeaten byTier (namedOf l)) (λ (r : Rival). r .fits) (highOf (namedOf l))
+    (keep-passes (unbeaten byTier (namedOf l)) (namedOf l))
 
-ranked-fits : (l : List Rival) → noneIs (λ r. r .fits) (highOf (namedOf l)) ≡ false → every (λ r. r .fits) (rankedOf l) ≡ true
+ranked-fits : (l : List Rival) → noneIs (λ r. r .fits) (highOf (namedOf l)) ≡ false
+    → every (λ r. r .fits) (rankedOf l) ≡ true
 unfolding rankedOf
 ranked-fits l e = only-passes (λ (r : Rival). r .fits) (highOf (namedOf l)) e
 
@@ -102,14 +134,18 @@ pub record Taken (l : List Rival) (r : Rival) : Type 0 where
 pub picked-taken : (l : List Rival) (margin : Float) (r : Rival) → pickedOf l margin ≡ Some r → Taken l r
 picked-taken l margin r e =
     record {
-      held = sym (ap (passes (λ (x : Rival). x .held)) e) ∙ picked-passes (λ (x : Rival). x .held) l margin (ranked-held l);
+      held = sym (ap (passes (λ (x : Rival). x .held)) e) ∙ picked-passes (λ (x : Rival). x .held) l margin
+          (ranked-held l);
       pinned =
           λ h.
-          sym (ap (passes (λ (x : Rival). x .pinned)) e) ∙ picked-passes (λ (x : Rival). x .pinned) l margin (ranked-pinned l h);
-      tier = sym (ap (passes (unbeaten byTier (namedOf l))) e) ∙ picked-passes (unbeaten byTier (namedOf l)) l margin (ranked-tier l);
+          sym (ap (passes (λ (x : Rival). x .pinned)) e) ∙ picked-passes (λ (x : Rival). x .pinned) l margin
+          (ranked-pinned l h);
+      tier = sym (ap (passes (unbeaten byTier (namedOf l))) e) ∙ picked-passes (unbeaten byTier (namedOf l)) l margin
+          (ranked-tier l);
       fits =
           λ h.
-          sym (ap (passes (λ (x : Rival). x .fits)) e) ∙ picked-passes (λ (x : Rival). x .fits) l margin (ranked-fits l h);
+          sym (ap (passes (λ (x : Rival). x .fits)) e) ∙ picked-passes (λ (x : Rival). x .fits) l margin
+          (ranked-fits l h);
     }
 
 -- ---- one is picked exactly if the field is not empty
@@ -137,7 +173,8 @@ quickest-there : (near : List Rival) (least : Rival) (f : MaybeRival) → isTher
 quickest-there near least (Some a) = else-there (firstBy byMedium (quickOf (a .medium) (preferredOf near))) a
 quickest-there near least None = else-there (firstBy byMedium (quickOf (least .medium) near)) least
 
-among-there : (l : List Rival) (margin : Float) (f : MaybeRival) → firstBy byScore (scoredOf l) ≡ f → isThere (amongRanked l margin f) ≡ anyIn l
+among-there : (l : List Rival) (margin : Float) (f : MaybeRival) → firstBy byScore (scoredOf l) ≡ f
+    → isThere (amongRanked l margin f) ≡ anyIn l
 among-there l margin None e = first-there trip-strict l
 among-there l margin (Some least) e =
     let near : List Rival = nearOf (mul binary64 (least .score) margin) l in
@@ -204,13 +241,16 @@ marked-all q l e =
     (λ f. simp f))
 
 ranked-all : (p : Rival → Bool) (l : List Rival) → every p l ≡ true → every p (rankedOf l) ≡ true
-ranked-all p l h = ranked-named p l (every-only p (λ (r : Rival). r .pinned) (rivalsOf l) (every-keep p (λ (r : Rival). r .held) l h))
+ranked-all p l h = ranked-named p l (every-only p (λ (r : Rival). r .pinned) (rivalsOf l)
+    (every-keep p (λ (r : Rival). r .held) l h))
 
 -- what the picked one passes, the rival at the place of its index passes
-at-index : (q : Rival → Bool) (l : List Rival) (margin : Float) (r : Rival) → placed 0 l ≡ true → pickedOf l margin ≡ Some r → q r ≡ true → q (getD l (r .index) noRival) ≡ true
+at-index : (q : Rival → Bool) (l : List Rival) (margin : Float) (r : Rival) → placed 0 l ≡ true
+    → pickedOf l margin ≡ Some r → q r ≡ true → q (getD l (r .index) noRival) ≡ true
 at-index q l margin r e p h =
     let m : marked q l r ≡ true =
-    sym (ap (passes (marked q l)) p) ∙ picked-passes (marked q l) l margin (ranked-all (marked q l) l (marked-all q l e))
+    sym (ap (passes (marked q l)) p) ∙ picked-passes (marked q l) l margin
+    (ranked-all (marked q l) l (marked-all q l e))
     in
     let k : r .held ≡ true = picked-taken l margin r p .held in
     simp (k, h) at m
@@ -220,11 +260,13 @@ abbrev isSlot : Chosen → Bool
 isSlot (chosen.Slot n) = true
 isSlot (chosen.Refused why) = false
 
-slot-is : {C : Type 0} (f : MaybeRival) (n : ℕ) → slotOf f ≡ chosen.Slot n → ((r : Rival) → f ≡ Some r → r .index ≡ n → C) → C
+slot-is : {C : Type 0} (f : MaybeRival) (n : ℕ) → slotOf f ≡ chosen.Slot n
+    → ((r : Rival) → f ≡ Some r → r .index ≡ n → C) → C
 slot-is (Some r) n e g = g r refl (ap chosenValue e)
 slot-is None n e g = never {t = false} (ap isSlot e) refl
 
-accepted : {C : Type 0} (l : List Rival) (margin : Float) (n : ℕ) → chooseOf l margin ≡ chosen.Slot n → (placed 0 l ≡ true → slotOf (pickedOf l margin) ≡ chosen.Slot n → C) → C
+accepted : {C : Type 0} (l : List Rival) (margin : Float) (n : ℕ) → chooseOf l margin ≡ chosen.Slot n
+    → (placed 0 l ≡ true → slotOf (pickedOf l margin) ≡ chosen.Slot n → C) → C
 unfolding chooseOf
 accepted l margin n e g =
     let rest : Chosen = cond (not (placed 0 l)) (chosen.Refused Index) (slotOf (pickedOf l margin)) in
@@ -234,10 +276,14 @@ accepted l margin n e g =
     let d : rest ≡ chosen.Slot n = sym (ap (λ (b : Bool). cond b (chosen.Refused Duration) rest) f) ∙ e in
     on-flag (placed 0 l)
     (λ p. g p (sym (ap (λ (b : Bool). cond (not b) (chosen.Refused Index) (slotOf (pickedOf l margin))) p) ∙ d))
-    (λ p. never {t = false} (ap isSlot (sym (ap (λ (b : Bool). cond (not b) (chosen.Refused Index) (slotOf (pickedOf l margin))) p) ∙ d)) refl))
+    (λ p. never {t = false}
+    (ap isSlot (sym (ap (λ (b : Bool). cond (not b) (chosen.Refused Index) (slotOf (pickedOf l margin))) p) ∙ d))
+    refl))
 
--- at the slot that `choose` answers stands a held rival, pinned if any is, of the highest tier of those, fitting if any of these fits
-pub chosen-taken : (l : List Rival) (margin : Float) (n : ℕ) → chooseOf l margin ≡ chosen.Slot n → Taken l (getD l n noRival)
+-- at the slot that `choose` answers stands a held rival, pinned if any is, of the highest tier of those, fitting if any
+-- of these fits
+pub chosen-taken : (l : List Rival) (margin : Float) (n : ℕ) → chooseOf l margin ≡ chosen.Slot n
+    → Taken l (getD l n noRival)
 chosen-taken l margin n e =
     accepted l margin n e
     (λ p s.
@@ -271,10 +317,12 @@ nothing None e = refl
 nothing (Some r) e = never {t = true} refl e
 
 -- `choose` answers 11
-pub empty-none : (l : List Rival) (margin : Float) → noneIs (λ r. r .held) l ≡ true → chooseOf l margin ≡ chosen.Refused NoPath
+pub empty-none : (l : List Rival) (margin : Float) → noneIs (λ r. r .held) l ≡ true
+    → chooseOf l margin ≡ chosen.Refused NoPath
 unfolding chooseOf
 empty-none l margin e =
-    ap (λ (m : List Rival). cond (not (noneIs isLong m)) (chosen.Refused Duration) (cond (not (placed 0 l)) (chosen.Refused Index) (slotOf (pickedOf l margin))))
+    ap (λ (m : List Rival). cond (not (noneIs isLong m)) (chosen.Refused Duration)
+    (cond (not (placed 0 l)) (chosen.Refused Index) (slotOf (pickedOf l margin))))
     (empty-rivals l e)
     ∙ ap (λ (b : Bool). cond (not b) (chosen.Refused Index) (slotOf (pickedOf l margin))) (empty-placed l 0 e)
     ∙ nothing (pickedOf l margin) (picked-there l margin ∙ ap not e)

@@ -1,13 +1,13 @@
--- The orders of rivals (specs/Rivals.antt) are strict: of two at most one comes before the other, and not coming before goes along. Of
--- two with different indices one comes before the other.
+-- The orders of rivals (specs/Rivals.antt) are strict: of two at most one comes before the other, and not coming before
+-- goes along. Of two with different indices one comes before the other.
 -- Assumes nothing.
 use Prim.Native.Nat.{ℕ}
-use mathlib.Core.Path.{_≡_, refl, ap, sym, _∙_}
+use mathlib.Core.Path.{_≡_, refl, ap, _∙_}
 use mathlib.Core.Bool.{Bool, true, false, not, cond, _&&_, _||_, Bool·beq}
 use native.Mathlib.Omega.{arith}
 use borrow.Author.Tests.{lt-ltb, le-ltb, ltb-false, eq-eqb, ne-eqb}
 use lib.Dec.{ltb, eqb}
-use Rattle.base.proofs.Cases.{on-flag, on-order, never}
+use Rattle.base.proofs.Cases.{on-order, never}
 use Rattle.base.proofs.FirstLaws.{Strict, by-least, by-greatest, strict-then, strict-same}
 use Rattle.total.specs.Values.{totalOf}
 use Rattle.total.proofs.StrictLaws.{total-strict}
@@ -38,7 +38,8 @@ pub score-strict : Strict byScore
 score-strict =
     strict-same
     (λ a b.
-    ap (λ (t : Bool). not (totalOf (b .score) (a .score)) || (t && ltb (a .index) (b .index))) (not-not (totalOf (a .score) (b .score))))
+    ap (λ (t : Bool). not (totalOf (b .score) (a .score)) || (t && ltb (a .index) (b .index)))
+    (not-not (totalOf (a .score) (b .score))))
     (strict-then less-strict index-strict)
 
 -- ---- by medium, score, index
@@ -64,7 +65,8 @@ medium-strict =
 abbrev unknown : Bool → ℕ
 unknown t = cond t 0 1
 
-knowns : (a b t : Bool) → (ltb (unknown a) (unknown b) || (not (ltb (unknown b) (unknown a)) && t)) ≡ ((a && not b) || (Bool·beq a b && t))
+knowns : (a b t : Bool)
+    → (ltb (unknown a) (unknown b) || (not (ltb (unknown b) (unknown a)) && t)) ≡ ((a && not b) || (Bool·beq a b && t))
 knowns true true t = refl
 knowns true false t = refl
 knowns false true t = refl
@@ -76,7 +78,8 @@ trip-strict =
     (λ a b.
     let t : Bool = ltb (tripOf a) (tripOf b) || (not (ltb (tripOf b) (tripOf a)) && ltb (a .index) (b .index)) in
     knowns (a .timed) (b .timed) t
-    ∙ ap (λ (s : Bool). (a .timed && not (b .timed)) || (Bool·beq (a .timed) (b .timed) && s)) (levels (tripOf a) (tripOf b) (ltb (a .index) (b .index))))
+    ∙ ap (λ (s : Bool). (a .timed && not (b .timed)) || (Bool·beq (a .timed) (b .timed) && s))
+    (levels (tripOf a) (tripOf b) (ltb (a .index) (b .index))))
     (strict-then (by-least (λ (r : Rival). unknown (r .timed))) (strict-then (by-least tripOf) index-strict))
 
 -- ---- two of different indices are never level
@@ -101,7 +104,8 @@ level-number m n r s e f =
     (λ k.
     (rw (le-ltb m n h, eq-eqb m n (omega arith)) at e, rw (le-ltb n m k, eq-eqb n m (omega arith)) at f)))
 
-level-known : (a b r s : Bool) → ((a && not b) || (Bool·beq a b && r)) ≡ false → ((b && not a) || (Bool·beq b a && s)) ≡ false
+level-known : (a b r s : Bool) → ((a && not b) || (Bool·beq a b && r)) ≡ false
+    → ((b && not a) || (Bool·beq b a && s)) ≡ false
     → (r ≡ false) × (s ≡ false)
 level-known true true r s e f = (e, f)
 level-known true false r s e f = never refl e
@@ -110,7 +114,8 @@ level-known false false r s e f = (e, f)
 
 pub score-apart : (a b : Rival) → byScore a b ≡ false → byScore b a ≡ false → a .index ≡ b .index
 score-apart a b e f =
-    let l = level-score (totalOf (b .score) (a .score)) (totalOf (a .score) (b .score)) (ltb (a .index) (b .index)) (ltb (b .index) (a .index)) e f in
+    let l = level-score (totalOf (b .score) (a .score)) (totalOf (a .score) (b .score)) (ltb (a .index) (b .index))
+    (ltb (b .index) (a .index)) e f in
     same-index a b (l .0) (l .1)
 
 pub medium-apart : (a b : Rival) → byMedium a b ≡ false → byMedium b a ≡ false → a .index ≡ b .index

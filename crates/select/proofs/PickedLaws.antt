@@ -1,10 +1,11 @@
--- What each pick of the choice is, by one law of `firstBy`: the best has the least score, of equals the lowest index; the preferred pick
--- is near and the first such; the quicker one is near, quicker, and the first by medium, score, index.
+-- What each pick of the choice is, by one law of `firstBy`: the best has the least score, of equals the lowest index;
+-- the preferred pick is near and the first such; the quicker one is near, quicker, and the first by medium, score,
+-- index.
 -- Assumes nothing.
 use Prim.Native.Nat.{ℕ, _≤_}
-use mathlib.Core.Path.{_≡_, refl, ap, sym, subst, _∙_}
+use mathlib.Core.Path.{_≡_, refl, subst}
 use mathlib.Core.Bool.{Bool, true, false, not, _&&_, _||_}
-use mathlib.Core.List.{List, [], _∷_, _++_}
+use mathlib.Core.List.{List, _∷_, _++_}
 use native.Mathlib.Omega.{arith}
 use borrow.Author.Tests.{lt-ltb, le-ltb, ltb-false, eq-eqb}
 use lib.Dec.{ltb, eqb}
@@ -15,7 +16,7 @@ use Rattle.base.proofs.KeepLaws.{every-keep, keep-passes, keep-keep}
 use Rattle.base.proofs.FirstLaws.{Strict, First, first-over, first-passes, first-cases}
 use Rattle.total.specs.Values.{totalOf}
 use Rattle.select.specs.Media.{speedOf, quickerOf}
-use Rattle.select.specs.Rivals.{byScore, byMedium, byTrip}
+use Rattle.select.specs.Rivals.{byScore, byMedium}
 use Rattle.select.specs.Choice.{firstBy, scoredOf, nearOf, preferredOf, quickOf}
 use Rattle.select.specs.declared.types.Medium.{Medium}
 use Rattle.select.specs.declared.types.Rival.{Rival}
@@ -33,7 +34,8 @@ none-some : {C : Type 0} (r : Rival) → None ≡ Some r → C
 none-some r e = let z : _≡_ {A = ℕ} 0 1 = let y : true ≡ false = cc in cc in absurd (omega arith)
 
 -- what `firstBy` gives stands in the list, comes before each earlier one, and none comes before it
-pub first-by : {before : Rival → Rival → Bool} → Strict before → (l : List Rival) (r : Rival) → firstBy before l ≡ Some r → First before l r
+pub first-by : {before : Rival → Rival → Bool} → Strict before → (l : List Rival) (r : Rival)
+    → firstBy before l ≡ Some r → First before l r
 first-by {before} order l r =
     first-cases order None Some (λ (f : MaybeRival). f ≡ Some r → First before l r) l
     (λ h e. none-some r e)
@@ -55,7 +57,8 @@ score-over true true s e = (refl, λ h. e)
 score-over true false s e = (refl, λ h. never h refl)
 score-over false q s e = never refl e
 
-not-before : (r x : Rival) → byScore x r ≡ false → (totalOf (r .score) (x .score) ≡ true) × (totalOf (x .score) (r .score) ≡ true → r .index ≤ x .index)
+not-before : (r x : Rival) → byScore x r ≡ false
+    → (totalOf (r .score) (x .score) ≡ true) × (totalOf (x .score) (r .score) ≡ true → r .index ≤ x .index)
 not-before r x e =
     let o = score-over (totalOf (r .score) (x .score)) (totalOf (x .score) (r .score)) (ltb (x .index) (r .index)) e in
     (o .0, λ h. ltb-false (x .index) (r .index) (o .1 h))
@@ -74,7 +77,8 @@ best-is l r e =
 module _ (limit : Float) (l : List Rival) where
   -- what is near has a score, of at most the limit
   near-scored : every (λ r. r .scored) (nearOf limit l) ≡ true
-  near-scored = every-keep (λ (r : Rival). r .scored) (λ (r : Rival). le (r .score) limit) (scoredOf l) (keep-passes (λ (r : Rival). r .scored) l)
+  near-scored = every-keep (λ (r : Rival). r .scored) (λ (r : Rival). le (r .score) limit) (scoredOf l)
+      (keep-passes (λ (r : Rival). r .scored) l)
 
   near-within : every (λ r. le (r .score) limit) (nearOf limit l) ≡ true
   near-within = keep-passes (λ (r : Rival). le (r .score) limit) (scoredOf l)
@@ -85,11 +89,14 @@ pub record Near (limit : Float) (r : Rival) : Type 0 where
   pub within : le (r .score) limit ≡ true
 
 -- the first of a list that was kept of those near, by any order
-kept-near : (limit : Float) (l : List Rival) (q : Rival → Bool) {before : Rival → Rival → Bool} {r : Rival} → First before (keep q (nearOf limit l)) r → Near limit r
+kept-near : (limit : Float) (l : List Rival) (q : Rival → Bool) {before : Rival → Rival → Bool} {r : Rival}
+    → First before (keep q (nearOf limit l)) r → Near limit r
 kept-near limit l q f =
     record {
-      scored = first-passes (λ (x : Rival). x .scored) f (every-keep (λ (x : Rival). x .scored) q (nearOf limit l) (near-scored limit l));
-      within = first-passes (λ (x : Rival). le (x .score) limit) f (every-keep (λ (x : Rival). le (x .score) limit) q (nearOf limit l) (near-within limit l));
+      scored = first-passes (λ (x : Rival). x .scored) f (every-keep (λ (x : Rival). x .scored) q (nearOf limit l)
+          (near-scored limit l));
+      within = first-passes (λ (x : Rival). le (x .score) limit) f
+          (every-keep (λ (x : Rival). le (x .score) limit) q (nearOf limit l) (near-within limit l));
     }
 
 -- ---- the first preferred one with score <= limit
@@ -99,11 +106,13 @@ pub record PreferredPick (limit : Float) (l : List Rival) (p : Rival) : Type 0 w
   pub near : Near limit p
   pub first : Best (preferredOf (nearOf limit l)) p
 
-pub preferred-is : (limit : Float) (l : List Rival) (p : Rival) → firstBy byScore (preferredOf (nearOf limit l)) ≡ Some p → PreferredPick limit l p
+pub preferred-is : (limit : Float) (l : List Rival) (p : Rival)
+    → firstBy byScore (preferredOf (nearOf limit l)) ≡ Some p → PreferredPick limit l p
 preferred-is limit l p e =
     let f : First byScore (preferredOf (nearOf limit l)) p = first-by score-strict (preferredOf (nearOf limit l)) p e in
     record {
-      preferred = first-passes (λ (x : Rival). x .preferred) f (keep-passes (λ (x : Rival). x .preferred) (nearOf limit l));
+      preferred = first-passes (λ (x : Rival). x .preferred) f
+          (keep-passes (λ (x : Rival). x .preferred) (nearOf limit l));
       near = kept-near limit l (λ (x : Rival). x .preferred) f;
       first = best-is (preferredOf (nearOf limit l)) p e;
     }
@@ -113,8 +122,10 @@ preferred-is limit l p e =
 pub record Quickest (l : List Rival) (r : Rival) : Type 0 where
   pub there : Stands l r
   pub medium : (x : Rival) → Stands l x → speedOf (r .medium) ≤ speedOf (x .medium)
-  pub least : (x : Rival) → Stands l x → speedOf (r .medium) ≡ speedOf (x .medium) → totalOf (r .score) (x .score) ≡ true
-  pub lowest : (x : Rival) → Stands l x → speedOf (r .medium) ≡ speedOf (x .medium) → totalOf (x .score) (r .score) ≡ true → r .index ≤ x .index
+  pub least : (x : Rival) → Stands l x → speedOf (r .medium) ≡ speedOf (x .medium)
+      → totalOf (r .score) (x .score) ≡ true
+  pub lowest : (x : Rival) → Stands l x → speedOf (r .medium) ≡ speedOf (x .medium)
+      → totalOf (x .score) (r .score) ≡ true → r .index ≤ x .index
 
 -- x does not come before r, by medium
 medium-over : (m n : ℕ) (t : Bool) → (ltb m n || (eqb m n && t)) ≡ false → (n ≤ m) × (n ≡ m → t ≡ false)
@@ -126,8 +137,11 @@ medium-over m n t e =
 pub quickest-is : (l : List Rival) (r : Rival) → firstBy byMedium l ≡ Some r → Quickest l r
 quickest-is l r e =
     let f : First byMedium l r = first-by medium-strict l r e in
-    let o : (x : Rival) → Stands l x → (speedOf (r .medium) ≤ speedOf (x .medium)) × (speedOf (r .medium) ≡ speedOf (x .medium) → byScore x r ≡ false) =
-    λ x s. medium-over (speedOf (x .medium)) (speedOf (r .medium)) (byScore x r) (first-over f (s .front) (s .back) x (s .there))
+    let o : (x : Rival) → Stands l x
+    → (speedOf (r .medium) ≤ speedOf (x .medium)) × (speedOf (r .medium) ≡ speedOf (x .medium) → byScore x r ≡
+    false) =
+    λ x s. medium-over (speedOf (x .medium)) (speedOf (r .medium)) (byScore x r)
+    (first-over f (s .front) (s .back) x (s .there))
     in
     record {
       there = stands f;
@@ -142,11 +156,13 @@ pub record QuickerPick (limit : Float) (m : Medium) (l : List Rival) (r : Rival)
   pub near : Near limit r
   pub first : Quickest (quickOf m (nearOf limit l)) r
 
-pub quicker-is : (limit : Float) (m : Medium) (l : List Rival) (r : Rival) → firstBy byMedium (quickOf m (nearOf limit l)) ≡ Some r → QuickerPick limit m l r
+pub quicker-is : (limit : Float) (m : Medium) (l : List Rival) (r : Rival)
+    → firstBy byMedium (quickOf m (nearOf limit l)) ≡ Some r → QuickerPick limit m l r
 quicker-is limit m l r e =
     let f : First byMedium (quickOf m (nearOf limit l)) r = first-by medium-strict (quickOf m (nearOf limit l)) r e in
     record {
-      quicker = first-passes (λ (x : Rival). quickerOf (x .medium) m) f (keep-passes (λ (x : Rival). quickerOf (x .medium) m) (nearOf limit l));
+      quicker = first-passes (λ (x : Rival). quickerOf (x .medium) m) f
+          (keep-passes (λ (x : Rival). quickerOf (x .medium) m) (nearOf limit l));
       near = kept-near limit l (λ (x : Rival). quickerOf (x .medium) m) f;
       first = quickest-is (quickOf m (nearOf limit l)) r e;
     }
@@ -158,7 +174,8 @@ pub record QuickerPreferredPick (limit : Float) (m : Medium) (l : List Rival) (r
   pub near : Near limit r
   pub first : Quickest (quickOf m (preferredOf (nearOf limit l))) r
 
-pub quicker-preferred-is : (limit : Float) (m : Medium) (l : List Rival) (r : Rival) → firstBy byMedium (quickOf m (preferredOf (nearOf limit l))) ≡ Some r
+pub quicker-preferred-is : (limit : Float) (m : Medium) (l : List Rival) (r : Rival)
+    → firstBy byMedium (quickOf m (preferredOf (nearOf limit l))) ≡ Some r
     → QuickerPreferredPick limit m l r
 quicker-preferred-is limit m l r e =
     let n : List Rival = preferredOf (nearOf limit l) in
@@ -168,6 +185,7 @@ quicker-preferred-is limit m l r e =
     record {
       quicker = first-passes q f (keep-passes q n);
       preferred = first-passes w f (every-keep w q n (keep-passes w (nearOf limit l)));
-      near = kept-near limit l (λ (x : Rival). w x && q x) (subst (λ (k : List Rival). First byMedium k r) (keep-keep q w (nearOf limit l)) f);
+      near = kept-near limit l (λ (x : Rival). w x && q x) (subst (λ (k : List Rival). First byMedium k r)
+          (keep-keep q w (nearOf limit l)) f);
       first = quickest-is (quickOf m n) r e;
     }

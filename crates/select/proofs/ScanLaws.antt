@@ -1,7 +1,6 @@
 -- The pass of `least`: of the rivals that it takes it finds the first in its order.
 -- Assumes nothing.
 use mathlib.Core.Path.{_≡_, refl, ap, _∙_}
-use mathlib.Core.Bool.{Bool}
 use mathlib.Core.List.{List, map, foldl}
 use Rattle.base.specs.Seq.{keep}
 use Rattle.base.proofs.KeepLaws.{map-same}
@@ -21,7 +20,8 @@ scan-strict (want.Preferred g limit) = score-strict
 scan-strict (want.Quicker g limit only m) = medium-strict
 scan-strict (want.Timed g) = trip-strict
 
-pub scan-pass : (w : Want) (l : List Rival) {k : MaybeRival} → k ≡ foldl (betterIn w) None (map (λ (r : Rival). r) (keep (takesOf w) l)) → k ≡ scanOf w l
+pub scan-pass : (w : Want) (l : List Rival) {k : MaybeRival}
+    → k ≡ foldl (betterIn w) None (map (λ (r : Rival). r) (keep (takesOf w) l)) → k ≡ scanOf w l
 scan-pass w l e =
     e
     ∙ ap (λ (m : List Rival). foldl (betterIn w) None m) (map-same (keep (takesOf w) l))

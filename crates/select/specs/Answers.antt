@@ -1,4 +1,5 @@
--- Document 01's number and value for each case of each answer: the refusal number, 0 if accepted; a refusal has value 0.
+-- Document 01's number and value for each case of each answer: the refusal number, 0 if accepted; a refusal has value
+-- 0.
 use Prim.Native.Nat.{ℕ}
 use lib.Ieee.{Float, binary64, ofBits}
 use Rattle.base.specs.Refusals.{refusalNumber}

@@ -1,4 +1,5 @@
--- The largest frame that a path carries (the Rust's `carried` and `heeded`, whose bodies are the definition), with the refusal 5.
+-- The largest frame that a path carries (the Rust's `carried` and `heeded`, whose bodies are the definition), with the
+-- refusal 5.
 use Prim.Native.Nat.{ℕ, _+_, min}
 use mathlib.Core.Bool.{Bool, not, cond}
 use Rattle.base.specs.Limits.{isOverlong}
@@ -27,4 +28,5 @@ boundedBy link (Some len) oriented = frameOf link len oriented
 
 -- `carried`: 5 for a link's frame above 65,535
 unfoldable pub carriedFrame : ℕ → MaybeLen → Bool → SizeAnswer
-carriedFrame link proven oriented = cond (isOverlong link) (answers.Refused Length) (answers.Size (boundedBy link proven oriented))
+carriedFrame link proven oriented = cond (isOverlong link) (answers.Refused Length)
+    (answers.Size (boundedBy link proven oriented))

@@ -1,6 +1,6 @@
--- For the proofs of the code's passes; no contract of a function that another crate calls cites it. A pass over a whole field asks the
--- tests of document 01's "Choice" of each rival at once: proofs/RankLaws.antt proves that it keeps what the lists of specs/Choice.antt
--- keep.
+-- For the proofs of the code's passes; no contract of a function that another crate calls cites it. A pass over a whole
+-- field asks the tests of document 01's "Choice" of each rival at once: proofs/RankLaws.antt proves that it keeps what
+-- the lists of specs/Choice.antt keep.
 use Prim.Native.Nat.{ℕ, max}
 use mathlib.Core.Bool.{Bool, not, cond, _&&_, _||_}
 use mathlib.Core.List.{List, map, foldl}

@@ -3,7 +3,8 @@ ghost use mathlib.Core.Path.{_≡_};
 ghost use Rattle.select.specs.Carried.{heededOf, carriedFrame};
 use crate::types::*;
 use base::limits::MAX_LEN;
-use base::types::{MaybeLen, Refusal};
+use base::types::MaybeLen;
+use base::types::Refusal;
 
 // The bytes of a frame around a path message.
 pub const FRAME_OVERHEAD: u32 = 36;

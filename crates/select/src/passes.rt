@@ -8,16 +8,16 @@ pub struct Gate {
     pub fit: bool,
 }
 
-// What a test over the field asks of a rival: a duration that is too long; a pin; in the highest tier that the pins leave, that it
-// fits.
+// What a test over the field asks of a rival: a duration that is too long; a pin; in the highest tier that the pins
+// leave, that it fits.
 pub enum Test {
     Long,
     Pinned,
     Fits(bool, u8),
 }
 
-// What a scan looks for among the ranked: the scored; the preferred near a limit; those near a limit over a quicker medium, preferred
-// ones only where one was picked; all, by their round trips.
+// What a scan looks for among the ranked: the scored; the preferred near a limit; those near a limit over a quicker
+// medium, preferred ones only where one was picked; all, by their round trips.
 pub enum Want {
     Scored(Gate),
     Preferred(Gate, f64),

@@ -22,8 +22,8 @@ pub enum Role {
     Preferred,
 }
 
-// A path that a choice may take, in its place of the field; where `held` is false there is none. Of score, steady, rtt and base the
-// mark (scored, steadied, timed, based) says whether there is one.
+// A path that a choice may take, in its place of the field; where `held` is false there is none. Of score, steady, rtt
+// and base the mark (scored, steadied, timed, based) says whether there is one.
 pub struct Rival {
     pub score: f64,
     pub steady: f64,
@@ -107,7 +107,8 @@ pub enum SizeAnswer {
     Refused(Refusal),
 }
 
-// The hold on a link's cost after a change of active path: the cost from before, the instant of the change, and the reports owed.
+// The hold on a link's cost after a change of active path: the cost from before, the instant of the change, and the
+// reports owed.
 pub struct Hold {
     pub cost: f64,
     pub at: u64,

@@ -33,8 +33,13 @@ returns-2 : tie.Need-returns-2
 unfolding carriedFrame
 returns-2 c =
     let d = c .before .before .before .before in
-    simp
-    (le-ltb _ _ (d .before .before .if1 .left), d .proven .given .1, sym (c .before .before .heeded .ensures) ∙ c .before .if2 .taken, c .min-u32 .ensures)
+    simp (
+      le-ltb _ _ (d .before .before .if1 .left),
+      d .proven .given .1,
+      sym (c .before .before .heeded .ensures) ∙ c
+          .before .if2 .taken,
+      c .min-u32 .ensures,
+    )
 
 returns-3 : tie.Need-returns-3
 unfolding carriedFrame
@@ -44,7 +49,12 @@ returns-4 : tie.Need-returns-4
 unfolding carriedFrame
 returns-4 c =
     let d = c .before .before .before in
-    simp (le-ltb _ _ (d .before .before .if1 .left), d .proven .given .1, sym (c .before .heeded .ensures) ∙ c .if2 .left)
+    simp (
+      le-ltb _ _ (d .before .before .if1 .left),
+      d .proven .given .1,
+      sym (c .before .heeded .ensures) ∙ c .if2
+          .left,
+    )
 
 pub carried-spec : {M : Type 1} → statement M
 carried-spec =

@@ -37,13 +37,15 @@ loop-less : tie.Need-loop-less Inv-loop μ-loop
 loop-less c = search needs
 
 loop-again : tie.Need-loop-again Inv-loop μ-loop
-loop-again c = folding-take _ (c .before .before .before .before .before .loop .inv) (search needs) (sym (c .before .before .named .ensures) ∙ c .before .if1 .taken) (c .max-u8 .ensures)
+loop-again c = folding-take _ (c .before .before .before .before .before .loop .inv) (search needs)
+    (sym (c .before .before .named .ensures) ∙ c .before .if1 .taken) (c .max-u8 .ensures)
 
 loop-less-2 : tie.Need-loop-less-2 Inv-loop μ-loop
 loop-less-2 c = search needs
 
 loop-again-2 : tie.Need-loop-again-2 Inv-loop μ-loop
-loop-again-2 c = folding-skip _ (c .before .before .before .before .loop .inv) (search needs) (sym (c .before .named .ensures) ∙ c .if1 .left)
+loop-again-2 c = folding-skip _ (c .before .before .before .before .loop .inv) (search needs)
+    (sym (c .before .named .ensures) ∙ c .if1 .left)
 
 returns : tie.Need-returns Inv-loop μ-loop
 returns c = folding-end (c .before .loop .inv) (search needs)

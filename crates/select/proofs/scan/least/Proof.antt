@@ -1,4 +1,5 @@
--- `select::scan::least` meets its contract: the loop folds what it takes, which finds the first of it. The measure is the places left.
+-- `select::scan::least` meets its contract: the loop folds what it takes, which finds the first of it. The measure is
+-- the places left.
 -- Assumes nothing.
 use Prim.Native.Nat.{_-_}
 use mathlib.Core.Path.{sym, _∙_}
@@ -39,17 +40,20 @@ loop-less : tie.Need-loop-less Inv-loop μ-loop
 loop-less c = search needs
 
 loop-again : tie.Need-loop-again Inv-loop μ-loop
-loop-again c = folding-take _ (c .before .before .before .before .before .loop .inv) (search needs) (sym (c .before .before .takes .ensures) ∙ c .before .if1 .taken) (c .better .ensures)
+loop-again c = folding-take _ (c .before .before .before .before .before .loop .inv) (search needs)
+    (sym (c .before .before .takes .ensures) ∙ c .before .if1 .taken) (c .better .ensures)
 
 loop-less-2 : tie.Need-loop-less-2 Inv-loop μ-loop
 loop-less-2 c = search needs
 
 loop-again-2 : tie.Need-loop-again-2 Inv-loop μ-loop
-loop-again-2 c = folding-skip _ (c .before .before .before .before .loop .inv) (search needs) (sym (c .before .takes .ensures) ∙ c .if1 .left)
+loop-again-2 c = folding-skip _ (c .before .before .before .before .loop .inv) (search needs)
+    (sym (c .before .takes .ensures) ∙ c .if1 .left)
 
 returns : tie.Need-returns Inv-loop μ-loop
 returns c =
-    scan-pass (c .before .before .args .w) (c .before .before .args .t1) (folding-end (c .before .loop .inv) (search needs))
+    scan-pass (c .before .before .args .w) (c .before .before .args .t1)
+    (folding-end (c .before .loop .inv) (search needs))
 
 pub least-spec : {M : Type 1} → statement M
 least-spec =
