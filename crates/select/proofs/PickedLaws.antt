@@ -1,11 +1,12 @@
--- What each pick of the choice is, by one law of `firstBy`: the best has the least score, of equals the lowest index;
--- the preferred pick is near and the first such; the quicker one is near, quicker, and the first by medium, score,
--- index.
+-- What each pick of the choice is, by one law of `firstBy`: the best has the least score, of equals the lowest index; the
+-- preferred pick is near and the first such; the quicker one is near, quicker, and the first by medium, score, index.
+-- And of every choice: with a score among the ranked the picked one is the best or near it, else the first by RTT.
 -- Assumes nothing.
 use Prim.Native.Nat.{ℕ, _≤_}
 use mathlib.Core.Path.{_≡_, refl, subst}
 use mathlib.Core.Bool.{Bool, true, false, not, _&&_, _||_}
 use mathlib.Core.List.{List, _∷_, _++_}
+use mathlib.Core.Logic.{_⊎_, inl, inr}
 use native.Mathlib.Omega.{arith}
 use borrow.Author.Tests.{lt-ltb, le-ltb, ltb-false, eq-eqb}
 use lib.Dec.{ltb, eqb}
@@ -16,13 +17,25 @@ use Rattle.base.proofs.KeepLaws.{every-keep, keep-passes, keep-keep}
 use Rattle.base.proofs.FirstLaws.{Strict, First, first-over, first-passes, first-cases}
 use Rattle.total.specs.Values.{totalOf}
 use Rattle.select.specs.Media.{speedOf, quickerOf}
-use Rattle.select.specs.Rivals.{byScore, byMedium}
-use Rattle.select.specs.Choice.{firstBy, scoredOf, nearOf, preferredOf, quickOf}
+use Rattle.select.specs.Rivals.{byScore, byMedium, byTrip}
+use Rattle.select.specs.Choice.{
+  rankedOf,
+  firstBy,
+  orElse,
+  scoredOf,
+  limitOf,
+  nearOf,
+  preferredOf,
+  quickOf,
+  quickest,
+  amongRanked,
+  pickedOf,
+}
 use Rattle.select.specs.declared.types.Medium.{Medium}
 use Rattle.select.specs.declared.types.Rival.{Rival}
 use Rattle.select.specs.declared.types.MaybeRival.{MaybeRival}
 use Rattle.select.specs.declared.types.MaybeRival.the-variants.{None, Some}
-use Rattle.select.proofs.OrderLaws.{score-strict, medium-strict}
+use Rattle.select.proofs.OrderLaws.{score-strict, medium-strict, trip-strict}
 
 -- x stands in the list
 pub record Stands (l : List Rival) (x : Rival) : Type 0 where
@@ -32,6 +45,9 @@ pub record Stands (l : List Rival) (x : Rival) : Type 0 where
 
 none-some : {C : Type 0} (r : Rival) → None ≡ Some r → C
 none-some r e = let z : _≡_ {A = ℕ} 0 1 = let y : true ≡ false = cc in cc in absurd (omega arith)
+
+some-one : (q r : Rival) → Some q ≡ Some r → q ≡ r
+some-one q r e = cc
 
 -- what `firstBy` gives stands in the list, comes before each earlier one, and none comes before it
 pub first-by : {before : Rival → Rival → Bool} → Strict before → (l : List Rival) (r : Rival)
@@ -189,3 +205,40 @@ quicker-preferred-is limit m l r e =
           (keep-keep q w (nearOf limit l)) f);
       first = quickest-is (quickOf m n) r e;
     }
+
+-- ---- of every choice
+
+-- where one of the ranked has a score, the picked one is the best or near it
+module _ (ranked : List Rival) (b : Rival) (limit : Float) where
+  after-preferred : (p r : Rival) (f : MaybeRival)
+      → firstBy byMedium (quickOf (p .medium) (preferredOf (nearOf limit ranked))) ≡ f
+      → Near limit p → orElse f p ≡ Some r → Near limit r
+  after-preferred p r (Some q) e n h =
+      subst (Near limit) (some-one q r h) (quicker-preferred-is limit (p .medium) ranked q e .near)
+  after-preferred p r None e n h = subst (Near limit) (some-one p r h) n
+
+  after-best : (r : Rival) (f : MaybeRival) → firstBy byMedium (quickOf (b .medium) (nearOf limit ranked)) ≡ f
+      → orElse f b ≡ Some r
+      → (b ≡ r) ⊎ Near limit r
+  after-best r (Some q) e h = inr (subst (Near limit) (some-one q r h) (quicker-is limit (b .medium) ranked q e .near))
+  after-best r None e h = inl (some-one b r h)
+
+  among-near : (r : Rival) (f : MaybeRival) → firstBy byScore (preferredOf (nearOf limit ranked)) ≡ f
+      → quickest (nearOf limit ranked) b f ≡ Some r → (b ≡ r) ⊎ Near limit r
+  among-near r (Some p) e h = inr (after-preferred p r _ refl (preferred-is limit ranked p e .near) h)
+  among-near r None e h = after-best r _ refl h
+
+picked-from : {C : Type 0} (ranked : List Rival) (margin : Float) (r : Rival) (f : MaybeRival)
+    → firstBy byScore (scoredOf ranked) ≡ f
+    → amongRanked ranked margin f ≡ Some r
+    → (First byTrip ranked r → C) → ((b : Rival) → Best (scoredOf ranked) b → (b ≡ r) ⊎ Near (limitOf b margin) r → C)
+    → C
+picked-from ranked margin r None e h timed near = timed (first-by trip-strict ranked r h)
+picked-from ranked margin r (Some b) e h timed near =
+    near b (best-is (scoredOf ranked) b e) (among-near ranked b (limitOf b margin) r _ refl h)
+
+pub picked-is : {C : Type 0} (field : List Rival) (margin : Float) (r : Rival) → pickedOf field margin ≡ Some r
+    → (First byTrip (rankedOf field) r → C)
+    → ((b : Rival) → Best (scoredOf (rankedOf field)) b → (b ≡ r) ⊎ Near (limitOf b margin) r → C) → C
+unfolding pickedOf
+picked-is field margin r h timed near = picked-from (rankedOf field) margin r _ refl h timed near
