@@ -36,14 +36,26 @@ use Rattle.rules.specs.declared.types.Record.{Record}
 use Rattle.rules.specs.declared.types.Turn.{Turn}
 use Rattle.rules.specs.declared.types.Stepped.{Stepped}
 use Rattle.rules.proofs.Laws.{pick-cases}
-use Rattle.rules.proofs.Turns.{ev, Work, slot-kept}
+use Rattle.rules.proofs.Turns.{withKind, Work, slot-kept}
 
-module _ (t : Settings) (s : Slot) (now span id length′ acked slot flags : ℕ) where
+module _ (t : Settings) (s : Slot) (e₀ : Event) where
   abbrev p : Liveness
   p = s .path
 
+  abbrev now : ℕ
+  now = e₀ .now
+
+  abbrev span : ℕ
+  span = e₀ .span
+
+  abbrev id : ℕ
+  id = e₀ .id
+
+  abbrev length′ : ℕ
+  length′ = e₀ .len
+
   abbrev e : ℕ → Event
-  e = ev t s now span id length′ acked slot flags
+  e = withKind e₀
 
   -- refused, with the slot as it came
   abbrev N : ℕ → Turn → Type 0
@@ -52,7 +64,7 @@ module _ (t : Settings) (s : Slot) (now span id length′ acked slot flags : ℕ
   taken : {X : Type 0} → true ≡ false → X
   taken q = never {t = true} refl q
 
-  by-probe : Work t s now span id length′ acked slot flags N 2
+  by-probe : Work t s e₀ N 2
   unfolding sendOf
   by-probe ok =
       pick-cases (λ (x : Sending). N 2 (sent s x)) (ltb 65535 length′) _ _ (λ f q. refl)
@@ -68,7 +80,7 @@ module _ (t : Settings) (s : Slot) (now span id length′ acked slot flags : ℕ
   by-settled len.None d = by-ring
   by-settled (len.Some n) d = λ q. taken q
 
-  by-answer : Work t s now span id length′ acked slot flags N 3
+  by-answer : Work t s e₀ N 3
   unfolding live.seekAnswerOf
   by-answer ok =
       pick-cases (λ (x : Settling). N 3 (answered (x .answer) (x .path) s (e 3))) (leb (2 ^ 62) (t .gap)) _ _ (λ f. by-ring)
@@ -79,7 +91,7 @@ module _ (t : Settings) (s : Slot) (now span id length′ acked slot flags : ℕ
   by-size len.None = λ q. refl
   by-size (len.Some n) = pick-cases (λ (x : Sending). N 8 (sent s x)) (ltb 65535 n) (noId p refusal.Length) _ (λ f q. refl) (λ f q. taken q)
 
-  by-search : Work t s now span id length′ acked slot flags N 8
+  by-search : Work t s e₀ N 8
   unfolding live.seekSizeOf
   by-search ok =
       pick-cases (λ (x : LenAnswer). N 8 (searched x s (e 8))) (ltb 65535 (s .full)) _ _ (λ f q. refl)
@@ -90,7 +102,7 @@ module _ (t : Settings) (s : Slot) (now span id length′ acked slot flags : ℕ
   by-lost true q = λ f. taken f
   by-lost false q = λ f. taken f
 
-  by-judge : Work t s now span id length′ acked slot flags N 9
+  by-judge : Work t s e₀ N 9
   unfolding live.seekJudgeOf
   by-judge ok =
       pick-cases (λ (x : Judging). N 9 (judged s x)) (leb (2 ^ 62) span) _ _ (λ f q. refl)
@@ -99,7 +111,7 @@ module _ (t : Settings) (s : Slot) (now span id length′ acked slot flags : ℕ
 
   pub slot-left : (k : ℕ) → N k (onSlot t s (e k))
   slot-left =
-      slot-kept t s now span id length′ acked slot flags N (λ k why q. refl)
+      slot-kept t s e₀ N (λ k why q. refl)
       (λ ok q. refl, (λ ok q. taken q, (λ ok q. taken q, (λ ok q. taken q, (λ ok q. taken q, (λ ok q. taken q, (by-judge, (by-search, (λ ok q. taken q, (λ ok q. taken q, (λ ok q. taken q, (λ ok q. taken q, (by-answer, (by-probe, (λ ok q. taken q, tt)))))))))))))))
 
 pub refused-left : (r : Record) (e : Event) → eqb (numberOf (step r e .reply)) 0 ≡ false → step r e .next ≡ r
@@ -109,5 +121,5 @@ refused-left r e =
     (λ c q. refl)
     (λ c q.
     let z : onSlot (r .settings) (slotAt r (e .slot)) e .slot ≡ slotAt r (e .slot) =
-    slot-left (r .settings) (slotAt r (e .slot)) (e .now) (e .span) (e .id) (e .len) (e .acked) (e .slot) (e .flags) (e .kind) q in
+    slot-left (r .settings) (slotAt r (e .slot)) e (e .kind) q in
     ap (λ (l : List Slot). record { settings = r .settings; slots = l }) (ap (set (r .slots) (e .slot)) z ∙ set-getD (r .slots) (e .slot) emptySlot))
