@@ -3,5 +3,6 @@ pub mod Seq
 pub mod Marked
 pub mod Serial
 pub mod Time
+pub mod Limits
 pub mod Refusals
 pub mod Least

@@ -2,14 +2,14 @@
 -- "the newest (last of equals)"), over any element type, any mark of being held, and any order.
 use Prim.Native.Nat.{ℕ, suc}
 use mathlib.Core.List.{List, [], _∷_}
-use mathlib.Core.Bool.{Bool, not, _&&_, _||_}
-use Rattle.base.specs.Seq.{pick, position, every, keep}
+use mathlib.Core.Bool.{Bool, not, cond, _&&_, _||_}
+use Rattle.base.specs.Seq.{position, every, keep}
 
 module _ {ℓ} {A : Type ℓ} where
   -- the place of the last element that passes the test, or the length
   abbrev pub lastPosition : (A → Bool) → List A → ℕ
   lastPosition p [] = 0
-  lastPosition p (x ∷ xs) = pick (p x && every (λ y. not (p y)) xs) 0 (suc (lastPosition p xs))
+  lastPosition p (x ∷ xs) = cond (p x && every (λ y. not (p y)) xs) 0 (suc (lastPosition p xs))
 
   module _ (held : A → Bool) where
     -- the place of the first gap, or the length
@@ -32,7 +32,7 @@ module _ {ℓ} {A : Type ℓ} where
 
       -- the place for a new one: the first gap, else the leader's place (first of equals)
       abbrev pub place : List A → ℕ
-      place l = pick (every held l) (firstLeader l) (firstGap l)
+      place l = cond (every held l) (firstLeader l) (firstGap l)
 
       -- x is held and comes before y, or y is a gap
       abbrev pub overtakes : A → A → Bool

@@ -1,11 +1,11 @@
 -- The paths that the marked figures speak of, each made from a new one by the rules of the methods alone (document 01, "Twelve marked
 -- figures"). Where a figure names no instant, everything happens at instant 0, with gap, timeout and cap 0 and the draw 0.
 use Prim.Native.Nat.{ℕ, zero, suc, _-_, _*_, _^_}
-use mathlib.Core.Bool.{Bool, true, false}
+use mathlib.Core.Bool.{Bool, true, false, cond}
 use mathlib.Core.List.{List, [], _∷_}
 use lib.Dec.{eqb}
 use lib.ListN.{length}
-use Rattle.base.specs.Seq.{pick, keep}
+use Rattle.base.specs.Seq.{keep}
 use Rattle.rtt.specs.Spans.{isSpan}
 use Rattle.stop.specs.Silence.{seconds}
 use Rattle.stop.specs.declared.types.MaybeStop.{MaybeStop}
@@ -71,7 +71,7 @@ acked p = seekProvedOf (seekAnswerOf p (p .sizes .seek .«probe_id») 0 .path) (
 
 -- "full .. lost, the rest acknowledged"
 abbrev pub settled : Liveness → ℕ → Liveness
-settled p full = pick (eqb (p .sizes .seek .len) full) (lost p) (acked p)
+settled p full = cond (eqb (p .sizes .seek .len) full) (lost p) (acked p)
 
 -- where a size is proposed one probe more than n, else none
 abbrev pub andThen : LenAnswer → ℕ → ℕ

@@ -1,6 +1,6 @@
 // The numbers of each part of a path, in the order of the image.
 ghost use mathlib.Core.Path.{_≡_};
-ghost use Rattle.image.specs.Image.{idTag, idValue, timeTag, timeValue, lenTag, lenValue, sentWords, idsWords, timeWords, stopWords, sizeWords, trafficWords, sampleWords, spanWords, etxBits};
+ghost use Rattle.image.specs.Image.{idTag, idOrZero, timeTag, timeOrZero, lenTag, lenOrZero, sentWords, idsWords, timeWords, stopWords, sizeWords, trafficWords, sampleWords, spanWords, etxBits};
 use base::types::*;
 use live::types::*;
 use ring::types::*;
@@ -20,7 +20,7 @@ fn id_tag(x: MaybeId) -> u64
 
 // The identifier, or 0.
 fn id_value(x: MaybeId) -> u64
-    ensures { λ r. ⌜ r ≡ idValue x ⌝ }
+    ensures { λ r. ⌜ r ≡ idOrZero x ⌝ }
 {
     match x {
         MaybeId::None => 0,
@@ -40,7 +40,7 @@ fn time_tag(x: MaybeTime) -> u64
 
 // The instant or the duration, or 0.
 fn time_value(x: MaybeTime) -> u64
-    ensures { λ r. ⌜ r ≡ timeValue x ⌝ }
+    ensures { λ r. ⌜ r ≡ timeOrZero x ⌝ }
 {
     match x {
         MaybeTime::None => 0,
@@ -60,7 +60,7 @@ fn len_tag(x: MaybeLen) -> u64
 
 // The length, or 0.
 fn len_value(x: MaybeLen) -> u64
-    ensures { λ r. ⌜ r ≡ lenValue x ⌝ }
+    ensures { λ r. ⌜ r ≡ lenOrZero x ⌝ }
 {
     match x {
         MaybeLen::None => 0,

@@ -1,15 +1,15 @@
 -- Probes sent, answered and lapsed (document 01, "Identifiers" and "Ring (8) and late list (4)"), with the refusals 5, 6, 8 and 9.
-use Prim.Native.Nat.{ℕ, _^_}
+use Prim.Native.Nat.{ℕ}
 use mathlib.Core.List.{List}
-use mathlib.Core.Bool.{Bool, true, false, _||_}
+use mathlib.Core.Bool.{Bool, true, false, cond, _||_}
 use lib.ListN.{set, getD, replicate}
 use lib.Dec.{leb, ltb}
-use Rattle.base.specs.Seq.{pick}
+use Rattle.base.specs.Limits.{isOverlong, isEndless}
 use Rattle.base.specs.declared.types.Refusal.{Refusal}
 use Rattle.base.specs.declared.types.Refusal.the-variants.{Length, Duration, Full, Unknown}
 use Rattle.base.specs.declared.types.MaybeLen.the-variants as len
 use Rattle.ring.specs.Ids.{takenOf, nextIds, answeredIds, thawedIds, isCounted, missedBy}
-use Rattle.ring.specs.Ring.{firstFree, dropSince, noSent, found, takenOut, remembered, swept}
+use Rattle.ring.specs.Ring.{maxWaiting, maxLate, firstFree, dropSince, noSent, found, takenOut, remembered, swept}
 use Rattle.ring.specs.Lapse.{isPassed, deferOf, scanOf, isPadded}
 use Rattle.ring.specs.declared.types.Sent.{Sent}
 use Rattle.ring.specs.declared.types.Ids.{Ids}
@@ -67,9 +67,9 @@ sentAt p slot kept id at due n =
 -- 5 for a length above 65,535; `send` takes the first free place; with eight waiting it takes no identifier: 8
 unfoldable pub sendOf : Liveness → ℕ → ℕ → ℕ → ℕ → Sending
 sendOf p at due n draw =
-    pick (ltb 65535 n)
+    cond (isOverlong n)
     (noId p Length)
-    (pick (leb 8 (firstFree (p .ring)))
+    (cond (leb maxWaiting (firstFree (p .ring)))
     (noId p Full)
     (sentAt p (firstFree (p .ring)) (dropSince (p .ids) (p .ring)) (takenOf (dropSince (p .ids) (p .ring) .«next_id») draw) at due n))
 
@@ -85,7 +85,7 @@ isMatching (answers.Refused why) = false
 abbrev pub answeredAt : Liveness → ℕ → ℕ → Answering
 answeredAt p slot id =
     record {
-      path = withProbes p (takenOut 8 (p .ring) slot) (p .late) (p .silence) (answeredIds (p .ids) id) (p .ladder) 0;
+      path = withProbes p (takenOut maxWaiting (p .ring) slot) (p .late) (p .silence) (answeredIds (p .ids) id) (p .ladder) 0;
       answer = answers.InTime (getD (p .ring) slot noSent);
     }
 
@@ -97,9 +97,9 @@ lateAt p place =
 -- `answer` looks in the ring, then the late list; 9 for an identifier that is in neither
 unfoldable pub answerOf : Liveness → ℕ → Answering
 answerOf p id =
-    pick (ltb (found id (p .ring)) 8)
+    cond (ltb (found id (p .ring)) maxWaiting)
     (answeredAt p (found id (p .ring)) id)
-    (pick (ltb (found id (p .late)) 4)
+    (cond (ltb (found id (p .late)) maxLate)
     (lateAt p (found id (p .late)))
     (record { path = p; answer = answers.Refused Unknown }))
 
@@ -107,7 +107,7 @@ answerOf p id =
 
 -- whether the lapse was a miss
 abbrev pub lapseAnswer : Bool → Expired
-lapseAnswer miss = pick miss expired.Counted expired.NotCounted
+lapseAnswer miss = cond miss expired.Counted expired.NotCounted
 
 -- the ladder after a lapse: `fallen` is set by a padded one
 abbrev pub lapsedLadder : Ladder → Bool → Ladder
@@ -119,7 +119,7 @@ abbrev pub lapsedAt : Liveness → List Sent → ℕ → Sent → Expiring
 lapsedAt p ring slot s =
     record {
       path =
-          withProbes p (takenOut 8 ring slot) (remembered (p .late) s) (p .silence) (p .ids)
+          withProbes p (takenOut maxWaiting ring slot) (remembered (p .late) s) (p .silence) (p .ids)
           (lapsedLadder (p .ladder) (isPadded (p .ids) s))
           (missedBy (p .misses) (isCounted (p .ids) (s .«probe_id»)));
       answer = lapseAnswer (isCounted (p .ids) (s .«probe_id»));
@@ -128,14 +128,14 @@ lapsedAt p ring slot s =
 -- where none lapses, what was deferred stays deferred
 abbrev pub expiredBy : Liveness → Scanned → Expiring
 expiredBy p c =
-    pick (leb 8 (c .slot))
+    cond (leb maxWaiting (c .slot))
     (record { path = withRing p (c .ring); answer = expired.None })
     (lapsedAt p (c .ring) (c .slot) (getD (c .ring) (c .slot) noSent))
 
 -- 6 for a cap of 2 ^ 62 or more; `expire` takes the first probe whose due has passed and that is not deferred
 unfoldable pub expireOf : Liveness → ℕ → Bool → ℕ → Expiring
 expireOf p now overdue cap =
-    pick (leb (2 ^ 62) cap)
+    cond (isEndless cap)
     (record { path = p; answer = expired.Refused Duration })
     (expiredBy p (scanOf (isPassed now overdue) (deferOf (p .traffic .«data_at») cap now overdue) (p .ring)))
 
@@ -147,4 +147,4 @@ lapseOf p s = withLate p (remembered (p .late) s)
 
 -- `clear`: every waiting probe enters the late list, in ring order; no miss
 abbrev pub clearOf : Liveness → Liveness
-clearOf p = withProbes p (replicate 8 noSent) (swept (p .late) (p .ring)) (p .silence) (p .ids) (p .ladder) (p .misses)
+clearOf p = withProbes p (replicate maxWaiting noSent) (swept (p .late) (p .ring)) (p .silence) (p .ids) (p .ladder) (p .misses)

@@ -1,8 +1,7 @@
 -- Sizes (document 01, "Size search", `size` and `fresh` of "Ring (8) and late list (4)"), with the refusals 5, 6, 8, 9 and 10.
-use Prim.Native.Nat.{ℕ, _^_}
-use mathlib.Core.Bool.{Bool, true, false}
-use lib.Dec.{leb, ltb}
-use Rattle.base.specs.Seq.{pick}
+use Prim.Native.Nat.{ℕ}
+use mathlib.Core.Bool.{Bool, true, false, cond}
+use Rattle.base.specs.Limits.{isOverlong, isUndersize, isEndless}
 use Rattle.base.specs.declared.types.Refusal.{Refusal}
 use Rattle.base.specs.declared.types.Refusal.the-variants.{Length, Duration, Unknown, NoSize}
 use Rattle.base.specs.declared.types.MaybeLen.{MaybeLen}
@@ -44,7 +43,7 @@ freshOf p =
       late = p .late;
       silence = p .silence;
       ids = freshIds (p .ids);
-      sizes = search.freshOf (p .sizes);
+      sizes = search.freshSizes (p .sizes);
       ladder = record { last = len.None; fallen = false };
       traffic = p .traffic;
       etx = p .etx;
@@ -54,9 +53,9 @@ freshOf p =
 -- 5 for a full size above 65,535 or below 27; else the ladder's size
 unfoldable pub sizeOf : Liveness → ℕ → LenAnswer
 sizeOf p full =
-    pick (ltb 65535 full)
+    cond (isOverlong full)
     (lens.Refused Length)
-    (pick (ltb full 27) (lens.Refused Length) (lens.Len (ladder.sizeOf (p .ladder) full)))
+    (cond (isUndersize full) (lens.Refused Length) (lens.Len (ladder.ladderSize (p .ladder) full)))
 
 -- ---- prove
 
@@ -66,7 +65,7 @@ noProve p why = record { path = p; answer = proves.Refused why }
 
 -- whether the proven size changed
 abbrev pub changedAnswer : Bool → ProveAnswer
-changedAnswer changed = pick changed proves.Changed proves.Same
+changedAnswer changed = cond changed proves.Changed proves.Same
 
 -- the path with the sizes that the rule gives, and its answer
 abbrev pub provedBy : Liveness → seek.Proving → Proving
@@ -75,7 +74,7 @@ provedBy p d = record { path = withSizes p (d .sizes); answer = changedAnswer (d
 -- 5 for a size above 65,535 or below 27; else the size is proven
 unfoldable pub proveOf : Liveness → ℕ → Proving
 proveOf p n =
-    pick (ltb 65535 n) (noProve p Length) (pick (ltb n 27) (noProve p Length) (provedBy p (search.proveOf (p .sizes) n)))
+    cond (isOverlong n) (noProve p Length) (cond (isUndersize n) (noProve p Length) (provedBy p (search.provenSizes (p .sizes) n)))
 
 -- ---- the proposal
 
@@ -87,33 +86,33 @@ lenOr why (len.Some n) = lens.Len n
 -- 5 for a full size above 65,535 or below 27; 10 where no size is proposed
 unfoldable pub seekSizeOf : Liveness → ℕ → ℕ → LenAnswer
 seekSizeOf p full now =
-    pick (ltb 65535 full)
+    cond (isOverlong full)
     (lens.Refused Length)
-    (pick (ltb full 27) (lens.Refused Length) (lenOr NoSize (search.seekSizeOf (p .sizes) full now)))
+    (cond (isUndersize full) (lens.Refused Length) (lenOr NoSize (search.searchSize (p .sizes) full now)))
 
 -- ---- a search probe sent
 
 -- the probe is out under the identifier taken, on the path that has taken it
 abbrev pub seekSentAt : Liveness → ℕ → ℕ → ℕ → Sending
-seekSentAt p at n id = record { path = withSizes p (search.seekSendOf (p .sizes) at n id); answer = ids.Id id }
+seekSentAt p at n id = record { path = withSizes p (search.sentSearch (p .sizes) at n id); answer = ids.Id id }
 
 -- 5 for a length above 65,535; else it takes the next identifier
 unfoldable pub seekSendOf : Liveness → ℕ → ℕ → ℕ → Sending
 seekSendOf p at n draw =
-    pick (ltb 65535 n) (noId p Length) (seekSentAt (takeIdOf p draw .path) at n (takeIdOf p draw .id))
+    cond (isOverlong n) (noId p Length) (seekSentAt (takeIdOf p draw .path) at n (takeIdOf p draw .id))
 
 -- a probe of the search that went to the ring: the next may go `deadline`(at, gap); a refused one changes nothing
 abbrev pub ringed : IdAnswer → Sending → ℕ → ℕ → Sending
 ringed (ids.Refused why) s at gap = s
 ringed (ids.Id id) s at gap =
-    record { path = withSizes (s .path) (search.seekNextOf (s .path .sizes) at gap); answer = s .answer }
+    record { path = withSizes (s .path) (search.nextSearch (s .path .sizes) at gap); answer = s .answer }
 
 -- 5 for a length above 65,535; 6 for a gap of 2 ^ 62 or more; then as `send`, 8 included
 unfoldable pub seekRingOf : Liveness → ℕ → ℕ → ℕ → ℕ → ℕ → Sending
 seekRingOf p at due gap n draw =
-    pick (ltb 65535 n)
+    cond (isOverlong n)
     (noId p Length)
-    (pick (leb (2 ^ 62) gap) (noId p Duration) (ringed (sendOf p at due n draw .answer) (sendOf p at due n draw) at gap))
+    (cond (isEndless gap) (noId p Duration) (ringed (sendOf p at due n draw .answer) (sendOf p at due n draw) at gap))
 
 -- ---- a search probe settled
 
@@ -129,9 +128,9 @@ settledBy p (len.Some n) d = record { path = withSizes p (d .sizes); answer = le
 -- 6 for a gap of 2 ^ 62 or more; else the probe is settled
 unfoldable pub seekAnswerOf : Liveness → ℕ → ℕ → Settling
 seekAnswerOf p id gap =
-    pick (leb (2 ^ 62) gap)
+    cond (isEndless gap)
     (noLen p Duration)
-    (settledBy p (search.seekAnswerOf (p .sizes) id gap .len) (search.seekAnswerOf (p .sizes) id gap))
+    (settledBy p (search.settledSearch (p .sizes) id gap .len) (search.settledSearch (p .sizes) id gap))
 
 -- a refusal returns the path as it came
 abbrev pub noRaise : Liveness → Refusal → Raising
@@ -139,7 +138,7 @@ noRaise p why = record { path = p; answer = raises.Refused why }
 
 -- whether the proven size rose
 abbrev pub raisedAnswer : Bool → RaiseAnswer
-raisedAnswer raised = pick raised raises.Raised raises.Kept
+raisedAnswer raised = cond raised raises.Raised raises.Kept
 
 -- the path with the sizes that the rule gives, and its answer
 abbrev pub raisedBy : Liveness → Proved → Raising
@@ -148,9 +147,9 @@ raisedBy p d = record { path = withSizes p (d .sizes); answer = raisedAnswer (d 
 -- 5 for a length above 65,535; else proven rises or the sent size is lost
 unfoldable pub seekProvedOf : Liveness → ℕ → ℕ → ℕ → Raising
 seekProvedOf p sent acked now =
-    pick (ltb 65535 sent)
+    cond (isOverlong sent)
     (noRaise p Length)
-    (pick (ltb 65535 acked) (noRaise p Length) (raisedBy p (search.seekProvedOf (p .sizes) sent acked now)))
+    (cond (isOverlong acked) (noRaise p Length) (raisedBy p (search.ackedSearch (p .sizes) sent acked now)))
 
 -- ---- a search probe judged
 
@@ -160,7 +159,7 @@ noJudge p why = record { path = p; answer = judges.Refused why }
 
 -- whether the search probe was lost now
 abbrev pub lostAnswer : Bool → JudgeAnswer
-lostAnswer lost = pick lost judges.Lost judges.Waits
+lostAnswer lost = cond lost judges.Lost judges.Waits
 
 -- the path with the sizes that the rule gives, and its answer
 abbrev pub judgedBy : Liveness → Judged → Judging
@@ -169,6 +168,6 @@ judgedBy p d = record { path = withSizes p (d .sizes); answer = lostAnswer (d .l
 -- 6 for a timeout or gap of 2 ^ 62 or more; else the probe is lost or waits
 unfoldable pub seekJudgeOf : Liveness → ℕ → ℕ → ℕ → Judging
 seekJudgeOf p now timeout gap =
-    pick (leb (2 ^ 62) timeout)
+    cond (isEndless timeout)
     (noJudge p Duration)
-    (pick (leb (2 ^ 62) gap) (noJudge p Duration) (judgedBy p (search.seekJudgeOf (p .sizes) (p .ids .answered) now timeout gap)))
+    (cond (isEndless gap) (noJudge p Duration) (judgedBy p (search.judgedSearch (p .sizes) (p .ids .answered) now timeout gap)))

@@ -1,9 +1,8 @@
 -- Round trips, ETX, frames received and the stop of a path (document 01, "RTT, ETX, score" and "Files and tail"), with the refusals
 -- 5 and 6. The counters are the Rust's: one frame and its bytes more or less, modulo 2 ^ 32.
 use Prim.Native.Nat.{ℕ, _+_, _-_, _%_, _^_}
-use mathlib.Core.Bool.{Bool, true, false}
-use lib.Dec.{leb, ltb}
-use Rattle.base.specs.Seq.{pick}
+use mathlib.Core.Bool.{Bool, true, false, cond}
+use Rattle.base.specs.Limits.{isOverlong, isEndless}
 use Rattle.base.specs.declared.types.Refusal.{Refusal}
 use Rattle.base.specs.declared.types.Refusal.the-variants.{Length, Duration}
 use Rattle.base.specs.declared.types.MaybeTime.the-variants as time
@@ -31,13 +30,13 @@ doneWith p = record { path = p; answer = done.Done }
 -- 6 for an RTT, window or horizon of 2 ^ 62 or more; else the rule of `sample`
 unfoldable pub sampleOf : Liveness → ℕ → ℕ → ℕ → ℕ → Doing
 sampleOf p now x window horizon =
-    pick (leb (2 ^ 62) x)
+    cond (isEndless x)
     (refusedDoing p Duration)
-    (pick (leb (2 ^ 62) window)
+    (cond (isEndless window)
     (refusedDoing p Duration)
-    (pick (leb (2 ^ 62) horizon)
+    (cond (isEndless horizon)
     (refusedDoing p Duration)
-    (doneWith (withRtts p (rtts.sampleOf (p .rtts) now x window horizon)))))
+    (doneWith (withRtts p (rtts.sampledRtts (p .rtts) now x window horizon)))))
 
 -- `fold`: the Rust's float steps on the path's ETX
 abbrev pub foldedOf : Liveness → Bool → Liveness
@@ -46,11 +45,11 @@ foldedOf p delivered = withEtx p (foldOf (p .etx) delivered)
 -- 6 for a floor or cap of 2 ^ 62 or more; else the largest of floor, 3 × last, and the smaller of 3 × largest and cap
 unfoldable pub timeoutOf : Liveness → ℕ → ℕ → TimeAnswer
 timeoutOf p floor cap =
-    pick (leb (2 ^ 62) floor)
+    cond (isEndless floor)
     (answers.Refused Duration)
-    (pick (leb (2 ^ 62) cap)
+    (cond (isEndless cap)
     (answers.Refused Duration)
-    (answers.Time (times.timeoutOf (p .rtts .rtt) (maxRtt (p .rtts .rtts)) floor cap)))
+    (answers.Time (times.timeoutBy (p .rtts .rtt) (maxRtt (p .rtts .rtts)) floor cap)))
 
 -- `heard`: one frame more, heard now
 abbrev pub heardTraffic : Traffic → ℕ → ℕ → Traffic
@@ -64,7 +63,7 @@ heardTraffic t n now =
 
 -- 5 for a length above 65,535; else the frame is counted
 unfoldable pub heardOf : Liveness → ℕ → ℕ → Doing
-heardOf p n now = pick (ltb 65535 n) (refusedDoing p Length) (doneWith (withTraffic p (heardTraffic (p .traffic) n now)))
+heardOf p n now = cond (isOverlong n) (refusedDoing p Length) (doneWith (withTraffic p (heardTraffic (p .traffic) n now)))
 
 -- `carried`: a session datagram arrived now
 abbrev pub carriedOf : Liveness → ℕ → Liveness
@@ -93,7 +92,7 @@ shedTraffic t n =
 
 -- 5 for a length above 65,535; else the frame is taken back
 unfoldable pub shedOf : Liveness → ℕ → Doing
-shedOf p n = pick (ltb 65535 n) (refusedDoing p Length) (doneWith (withTraffic p (shedTraffic (p .traffic) n)))
+shedOf p n = cond (isOverlong n) (refusedDoing p Length) (doneWith (withTraffic p (shedTraffic (p .traffic) n)))
 
 -- `halt`, `spend`, `owe` and `rebase` change the silence and nothing else
 abbrev pub haltedOf : Liveness → ℕ → Bool → Liveness

@@ -26,8 +26,8 @@ impl Liveness {
             since: id,
         };
         let free = ring::ring::none();
-        let places = [free; 8];
-        let late = [free; 4];
+        let places = [free; RING];
+        let late = [free; LATE];
         let rtts = Rtts::new();
         let silence = Silence::new();
         let seek = Seek::new();
@@ -73,7 +73,7 @@ impl Liveness {
     {
         let ring = self.ring;
         let n = ring::ring::outstanding(ring) as u64;
-        (n < cap) & (n < 8)
+        (n < cap) & (n < RING as u64)
     }
 
     // The earliest instant at which a waiting probe is due.

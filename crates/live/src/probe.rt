@@ -2,6 +2,8 @@
 ghost use mathlib.Core.Path.{_≡_};
 ghost use Rattle.live.specs.Probe.{noId, takeIdOf, sendOf, lapseAnswer, answerOf, expireOf, lapseOf, clearOf, thawOf, isMatching};
 use crate::types::*;
+use base::limits::DURATION_END;
+use base::limits::MAX_LEN;
 use base::types::*;
 use ring::types::*;
 use seek::types::*;
@@ -59,13 +61,13 @@ impl Liveness {
     pub fn send(self, at: u64, due: u64, len: u32, draw: u32) -> Sending
         ensures { λ r. ⌜ r ≡ sendOf self at due len draw ⌝ }
     {
-        if 65535 < len {
+        if MAX_LEN < len {
             let why = Refusal::Length;
             return no_id(self, why);
         }
         let ring = self.ring;
         let slot = ring::ring::first_free(ring);
-        if 8 <= slot {
+        if RING <= slot {
             let why = Refusal::Full;
             return no_id(self, why);
         }
@@ -104,7 +106,7 @@ impl Liveness {
     {
         let ring = self.ring;
         let slot = ring::ring::find(ring, id);
-        if slot < 8 {
+        if slot < RING {
             let sent = ring[slot];
             let closed = ring::ring::take_out(ring, slot);
             let ids = ring::ids::answered_ids(self.ids, id);
@@ -120,7 +122,7 @@ impl Liveness {
         }
         let late = self.late;
         let place = ring::ring::find_late(late, id);
-        if place < 4 {
+        if place < LATE {
             let sent = late[place];
             let free = ring::ring::none();
             let mut out = self;
@@ -142,7 +144,7 @@ impl Liveness {
     pub fn expire(self, now: u64, overdue: bool, cap: u64) -> Expiring
         ensures { λ r. ⌜ r ≡ expireOf self now overdue cap ⌝ }
     {
-        if 0x4000_0000_0000_0000 <= cap {
+        if DURATION_END <= cap {
             let refused = Expired::Refused(Refusal::Duration);
             return Expiring {
                 path: self,
@@ -156,7 +158,7 @@ impl Liveness {
         let left = scanned.ring;
         let slot = scanned.slot;
         let mut out = self;
-        if slot >= 8 {
+        if slot >= RING {
             out.ring = left;
             let none = Expired::None;
             return Expiring {
@@ -202,7 +204,7 @@ impl Liveness {
         let late = self.late;
         let later = ring::ring::sweep(late, ring);
         let free = ring::ring::none();
-        let empty = [free; 8];
+        let empty = [free; RING];
         let mut out = self;
         out.ring = empty;
         out.late = later;

@@ -2,6 +2,9 @@
 ghost use mathlib.Core.Path.{_≡_};
 ghost use Rattle.live.specs.Search.{freshOf, lenOr, sizeOf, seekSizeOf, noProve, changedAnswer, proveOf, seekSendOf, ringed, seekRingOf, noLen, seekAnswerOf, noRaise, raisedAnswer, seekProvedOf, noJudge, lostAnswer, seekJudgeOf};
 use crate::types::*;
+use base::limits::DURATION_END;
+use base::limits::MAX_LEN;
+use base::limits::MIN_LEN;
 use base::types::*;
 use seek::types::Ladder;
 use seek::types::Sizes;
@@ -136,10 +139,10 @@ impl Liveness {
     pub fn size(self, full: u32) -> LenAnswer
         ensures { λ r. ⌜ r ≡ sizeOf self full ⌝ }
     {
-        if 65535 < full {
+        if MAX_LEN < full {
             return LenAnswer::Refused(Refusal::Length);
         }
-        if full < 27 {
+        if full < MIN_LEN {
             return LenAnswer::Refused(Refusal::Length);
         }
         let len = seek::ladder::size(self.ladder, full as u16);
@@ -151,10 +154,10 @@ impl Liveness {
         ensures { λ r. ⌜ r ≡ proveOf self len ⌝ }
     {
         let why = Refusal::Length;
-        if 65535 < len {
+        if MAX_LEN < len {
             return no_prove(self, why);
         }
-        if len < 27 {
+        if len < MIN_LEN {
             return no_prove(self, why);
         }
         let done = seek::search::prove(self.sizes, len as u16);
@@ -172,10 +175,10 @@ impl Liveness {
     pub fn seek_size(self, full: u32, now: u64) -> LenAnswer
         ensures { λ r. ⌜ r ≡ seekSizeOf self full now ⌝ }
     {
-        if 65535 < full {
+        if MAX_LEN < full {
             return LenAnswer::Refused(Refusal::Length);
         }
-        if full < 27 {
+        if full < MIN_LEN {
             return LenAnswer::Refused(Refusal::Length);
         }
         let len = seek::search::seek_size(self.sizes, full as u16, now);
@@ -187,7 +190,7 @@ impl Liveness {
     pub fn seek_send(self, at: u64, len: u32, draw: u32) -> Sending
         ensures { λ r. ⌜ r ≡ seekSendOf self at len draw ⌝ }
     {
-        if 65535 < len {
+        if MAX_LEN < len {
             let why = Refusal::Length;
             return crate::probe::no_id(self, why);
         }
@@ -207,11 +210,11 @@ impl Liveness {
     pub fn seek_ring(self, at: u64, due: u64, gap: u64, len: u32, draw: u32) -> Sending
         ensures { λ r. ⌜ r ≡ seekRingOf self at due gap len draw ⌝ }
     {
-        if 65535 < len {
+        if MAX_LEN < len {
             let why = Refusal::Length;
             return crate::probe::no_id(self, why);
         }
-        if 0x4000_0000_0000_0000 <= gap {
+        if DURATION_END <= gap {
             let why = Refusal::Duration;
             return crate::probe::no_id(self, why);
         }
@@ -223,7 +226,7 @@ impl Liveness {
     pub fn seek_answer(self, id: u32, gap: u64) -> Settling
         ensures { λ r. ⌜ r ≡ seekAnswerOf self id gap ⌝ }
     {
-        if 0x4000_0000_0000_0000 <= gap {
+        if DURATION_END <= gap {
             let why = Refusal::Duration;
             return no_len(self, why);
         }
@@ -252,10 +255,10 @@ impl Liveness {
         ensures { λ r. ⌜ r ≡ seekProvedOf self sent acked now ⌝ }
     {
         let why = Refusal::Length;
-        if 65535 < sent {
+        if MAX_LEN < sent {
             return no_raise(self, why);
         }
-        if 65535 < acked {
+        if MAX_LEN < acked {
             return no_raise(self, why);
         }
         let done = seek::search::seek_proved(self.sizes, sent as u16, acked as u16, now);
@@ -274,10 +277,10 @@ impl Liveness {
         ensures { λ r. ⌜ r ≡ seekJudgeOf self now timeout gap ⌝ }
     {
         let why = Refusal::Duration;
-        if 0x4000_0000_0000_0000 <= timeout {
+        if DURATION_END <= timeout {
             return no_judge(self, why);
         }
-        if 0x4000_0000_0000_0000 <= gap {
+        if DURATION_END <= gap {
             return no_judge(self, why);
         }
         let ids = self.ids;

@@ -1,8 +1,10 @@
 // Round trips, ETX, frames received, and the stop of a path.
 ghost use mathlib.Core.Path.{_≡_};
-ghost use Rattle.stop.specs.Silence.{stoppedOf, heldOf, recheckOf};
+ghost use Rattle.stop.specs.Silence.{stoppedOf, heldUntil, recheckOf};
 ghost use Rattle.live.specs.Times.{refusedDoing, sampleOf, foldedOf, timeoutOf, heardOf, carriedOf, shedOf, haltedOf, spentOf, owedOf, rebasedOf};
 use crate::types::*;
+use base::limits::DURATION_END;
+use base::limits::MAX_LEN;
 use base::types::*;
 
 // A refused call that has nothing else to say: the path as it came.
@@ -22,13 +24,13 @@ impl Liveness {
         ensures { λ r. ⌜ r ≡ sampleOf self now rtt window horizon ⌝ }
     {
         let why = Refusal::Duration;
-        if 0x4000_0000_0000_0000 <= rtt {
+        if DURATION_END <= rtt {
             return not_done(self, why);
         }
-        if 0x4000_0000_0000_0000 <= window {
+        if DURATION_END <= window {
             return not_done(self, why);
         }
-        if 0x4000_0000_0000_0000 <= horizon {
+        if DURATION_END <= horizon {
             return not_done(self, why);
         }
         let rtts = rtt::rtts::sample(self.rtts, now, rtt, window, horizon);
@@ -55,10 +57,10 @@ impl Liveness {
     pub fn timeout(self, floor: u64, cap: u64) -> TimeAnswer
         ensures { λ r. ⌜ r ≡ timeoutOf self floor cap ⌝ }
     {
-        if 0x4000_0000_0000_0000 <= floor {
+        if DURATION_END <= floor {
             return TimeAnswer::Refused(Refusal::Duration);
         }
-        if 0x4000_0000_0000_0000 <= cap {
+        if DURATION_END <= cap {
             return TimeAnswer::Refused(Refusal::Duration);
         }
         let rtts = self.rtts;
@@ -72,7 +74,7 @@ impl Liveness {
     pub fn heard(self, len: u32, now: u64) -> Doing
         ensures { λ r. ⌜ r ≡ heardOf self len now ⌝ }
     {
-        if 65535 < len {
+        if MAX_LEN < len {
             let why = Refusal::Length;
             return not_done(self, why);
         }
@@ -114,7 +116,7 @@ impl Liveness {
     pub fn shed(self, len: u32) -> Doing
         ensures { λ r. ⌜ r ≡ shedOf self len ⌝ }
     {
-        if 65535 < len {
+        if MAX_LEN < len {
             let why = Refusal::Length;
             return not_done(self, why);
         }
@@ -185,7 +187,7 @@ impl Liveness {
 
     // While stopped, the instant from which the next probe on the path's own cadence may go.
     pub fn held(self) -> MaybeTime
-        ensures { λ r. ⌜ r ≡ heldOf (self .silence) ⌝ }
+        ensures { λ r. ⌜ r ≡ heldUntil (self .silence) ⌝ }
     {
         stop::silence::held(self.silence)
     }

@@ -17,8 +17,8 @@ pub struct Traffic {
 // One path: RTTs, ring, late list, silence clock with the stop, identifiers, sizes with the search, ladder, traffic, ETX, misses.
 pub struct Liveness {
     pub rtts: Rtts,
-    pub ring: [Sent; 8],
-    pub late: [Sent; 4],
+    pub ring: [Sent; RING],
+    pub late: [Sent; LATE],
     pub silence: Silence,
     pub ids: Ids,
     pub sizes: Sizes,

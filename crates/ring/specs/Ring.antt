@@ -1,10 +1,10 @@
 -- The places of the ring and of the late list (document 01, "Ring (8) and late list (4)"). A place that is not used is free.
 use Prim.Native.Nat.{ℕ, _-_}
 use mathlib.Core.List.{List, [], _∷_, _++_, map}
-use mathlib.Core.Bool.{Bool, true, false, not}
+use mathlib.Core.Bool.{Bool, true, false, not, cond}
 use lib.ListN.{length, replicate, drop, set}
 use lib.Dec.{eqb}
-use Rattle.base.specs.Seq.{pick, position, every, keep}
+use Rattle.base.specs.Seq.{position, every, keep}
 use Rattle.base.specs.Least.{leastOf}
 use Rattle.base.specs.declared.types.MaybeTime.{MaybeTime}
 use Rattle.base.specs.declared.types.MaybeId.{MaybeId}
@@ -12,6 +12,14 @@ use Rattle.base.specs.declared.types.MaybeId.the-variants.{None}
 use Rattle.ring.specs.Ids.{countsOf}
 use Rattle.ring.specs.declared.types.Sent.{Sent}
 use Rattle.ring.specs.declared.types.Ids.{Ids}
+
+-- the places of the ring, `RING`
+abbrev pub maxWaiting : ℕ
+maxWaiting = 8
+
+-- the places of the late list, `LATE`
+abbrev pub maxLate : ℕ
+maxLate = 4
 
 -- a free place, as a path starts with
 abbrev pub noSent : Sent
@@ -29,7 +37,7 @@ firstFree l = position isFree l
 
 -- free, or its identifier counts
 abbrev pub fineOf : MaybeId → Sent → Bool
-fineOf since s = pick (s .used) (countsOf since (s .«probe_id»)) true
+fineOf since s = cond (s .used) (countsOf since (s .«probe_id»)) true
 
 -- every waiting probe counts (an empty ring does)
 abbrev pub allCount : MaybeId → List Sent → Bool
@@ -38,13 +46,13 @@ allCount since l = every (fineOf since) l
 -- if every waiting probe counts, `since` is dropped
 abbrev pub dropSince : Ids → List Sent → Ids
 dropSince m l =
-    pick (allCount (m .since) l)
+    cond (allCount (m .since) l)
     (record { «next_id» = m .«next_id»; answered = m .answered; epoch = m .epoch; since = None })
     m
 
 -- a used place with the identifier
 abbrev pub isProbe : ℕ → Sent → Bool
-isProbe id s = pick (s .used) (eqb (s .«probe_id») id) false
+isProbe id s = cond (s .used) (eqb (s .«probe_id») id) false
 
 -- the place of the first probe with the identifier, or the length
 abbrev pub found : ℕ → List Sent → ℕ

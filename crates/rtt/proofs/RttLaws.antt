@@ -14,10 +14,10 @@ use Rattle.base.proofs.Cases.{on-flag, on-order, never}
 use Rattle.base.proofs.ScanLaws.{map-append, keep-set}
 use Rattle.base.proofs.MarkedLaws.{by-least, place-there}
 use Rattle.base.specs.Least.{lowerOf, leastOf}
-use Rattle.rtt.specs.Samples.{noSample, isSample, noLater, keptSample, keptSamples, samplePlace, newSample, withSample, minRtt}
+use Rattle.rtt.specs.Samples.{noSample, isSample, sampleNoLater, keptSample, keptSamples, samplePlace, newSample, withSample, minRtt}
 use Rattle.rtt.specs.Spans as spans
 use Rattle.rtt.specs.Spans.{noSpan, isSpan, keptSpan, keptSpans, newestSpan, spanPlace, joinsOf, joinedOf, newSpan, spanOf, baseRtt}
-use Rattle.rtt.specs.Rtts.{newRtts, sampleOf}
+use Rattle.rtt.specs.Rtts.{newRtts, sampledRtts}
 use Rattle.rtt.specs.declared.types.Sample.{Sample}
 use Rattle.rtt.specs.declared.types.Span.{Span}
 use Rattle.rtt.specs.declared.types.Rtts.{Rtts}
@@ -57,7 +57,7 @@ unfolding minRtt withSample
 sample-least now x window l h =
     let k : length (keptSamples now window l) ≡ length l = length-map l (keptSample now window) in
     let p : samplePlace (keptSamples now window l) < length (keptSamples now window l) =
-    place-there isSample noLater (by-least (λ (s : Sample). s .at)) noSample refl (keptSamples now window l) (omega arith)
+    place-there isSample sampleNoLater (by-least (λ (s : Sample). s .at)) noSample refl (keptSamples now window l) (omega arith)
     in
     stored-under isSample (λ (s : Sample). s .rtt) (keptSamples now window l) (samplePlace (keptSamples now window l)) (newSample now x) x p refl (omega arith)
 
@@ -72,7 +72,7 @@ span-least now x horizon l h =
     (λ p. rw e (stored-under isSpan (λ (s : Span). s .rtt) m (newestSpan m) (joinedOf now x (getD m (newestSpan m) noSpan)) x p refl (omega arith)))
     (λ p. never e (joins-none now horizon m (newestSpan m) p)))
     (λ e.
-    let p : spanPlace m < length m = place-there isSpan spans.noLater (by-least (λ (s : Span). s .from)) noSpan refl m (omega arith) in
+    let p : spanPlace m < length m = place-there isSpan spans.spanNoLater (by-least (λ (s : Span). s .from)) noSpan refl m (omega arith) in
     rw e (stored-under isSpan (λ (s : Span). s .rtt) m (spanPlace m) (newSpan now x) x p refl (omega arith)))
 
 -- ---- the three together
@@ -101,7 +101,7 @@ pub new-unmeasured : Unmeasured newRtts
 unfolding minRtt baseRtt
 new-unmeasured = record { last = refl; least = refl; base = refl }
 
-pub sample-measured : (r : Rtts) (now x window horizon : ℕ) → Sized r → Measured (sampleOf r now x window horizon) x
+pub sample-measured : (r : Rtts) (now x window horizon : ℕ) → Sized r → Measured (sampledRtts r now x window horizon) x
 sample-measured r now x window horizon s =
     record {
       last = refl;
@@ -109,7 +109,7 @@ sample-measured r now x window horizon s =
       base = span-least now x horizon (r .spans) (omega arith);
     }
 
-pub sample-sized : (r : Rtts) (now x window horizon : ℕ) → Sized r → Sized (sampleOf r now x window horizon)
+pub sample-sized : (r : Rtts) (now x window horizon : ℕ) → Sized r → Sized (sampledRtts r now x window horizon)
 unfolding withSample spanOf
 sample-sized r now x window horizon s =
     record {

@@ -20,5 +20,5 @@ thriceOf None = 0
 thriceOf (Some r) = min (3 * r) (2 ^ 64 - 1)
 
 -- the largest of floor, 3 × last, and the smaller of 3 × largest and cap
-abbrev pub timeoutOf : MaybeTime → MaybeTime → ℕ → ℕ → ℕ
-timeoutOf last largest floor cap = max (max floor (thriceOf last)) (min (thriceOf largest) cap)
+abbrev pub timeoutBy : MaybeTime → MaybeTime → ℕ → ℕ → ℕ
+timeoutBy last largest floor cap = max (max floor (thriceOf last)) (min (thriceOf largest) cap)

@@ -1,6 +1,6 @@
 // Round trips: the largest, and the timeout.
 ghost use mathlib.Core.Path.{_≡_};
-ghost use Rattle.rtt.specs.Times.{higherOf, thriceOf, timeoutOf};
+ghost use Rattle.rtt.specs.Times.{higherOf, thriceOf, timeoutBy};
 use base::types::MaybeTime;
 
 // The largest so far, with one more.
@@ -30,7 +30,7 @@ fn thrice(rtt: MaybeTime) -> u64
 
 // How long a probe waits for its answer, by the last and the largest round trip.
 pub fn timeout(last: MaybeTime, largest: MaybeTime, floor: u64, cap: u64) -> u64
-    ensures { λ r. ⌜ r ≡ timeoutOf last largest floor cap ⌝ }
+    ensures { λ r. ⌜ r ≡ timeoutBy last largest floor cap ⌝ }
 {
     base::time::larger(
         base::time::larger(floor, thrice(last)),

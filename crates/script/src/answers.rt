@@ -1,34 +1,9 @@
 // Answers as numbers: the refusal number or 0, then the values, 0 where there are fewer than five.
 ghost use mathlib.Core.Path.{_≡_};
-ghost use Rattle.base.specs.Refusals.{refusalNumber};
 ghost use Rattle.script.specs.Answers.{plain, valued, timed, idCalled, answerCalled, expiredCalled, doneCalled, lenCalled, settledCalled, timeCalled, kindless, provedCalled, raisedCalled, judgedCalled};
 use crate::types::Called;
 use base::types::*;
 use live::types::*;
-
-// The number of a refusal in document 01's table.
-pub fn number(why: Refusal) -> u64
-    ensures { λ r. ⌜ r ≡ refusalNumber why ⌝ }
-{
-    match why {
-        Refusal::Slot => 1,
-        Refusal::Empty => 2,
-        Refusal::Held => 3,
-        Refusal::Flag => 4,
-        Refusal::Length => 5,
-        Refusal::Duration => 6,
-        Refusal::Margin => 7,
-        Refusal::Full => 8,
-        Refusal::Unknown => 9,
-        Refusal::NoSize => 10,
-        Refusal::NoPath => 11,
-        Refusal::Index => 12,
-        Refusal::Cut => 13,
-        Refusal::Map => 14,
-        Refusal::Kind => 15,
-        Refusal::Lent => 16,
-    }
-}
 
 // A call that gives a path and no value.
 pub fn give(path: Liveness) -> Called
@@ -79,7 +54,7 @@ pub fn of_sending(s: Sending) -> Called
         },
         IdAnswer::Refused(why) => Called {
             path: path,
-            words: [number(why), 0, 0, 0, 0, 0],
+            words: [why.number(), 0, 0, 0, 0, 0],
         },
     }
 }
@@ -101,7 +76,7 @@ pub fn of_answering(s: Answering) -> Called
         },
         Answer::Refused(why) => Called {
             path: path,
-            words: [number(why), 0, 0, 0, 0, 0],
+            words: [why.number(), 0, 0, 0, 0, 0],
         },
     }
 }
@@ -127,7 +102,7 @@ pub fn of_expiring(s: Expiring) -> Called
         },
         Expired::Refused(why) => Called {
             path: path,
-            words: [number(why), 0, 0, 0, 0, 0],
+            words: [why.number(), 0, 0, 0, 0, 0],
         },
     }
 }
@@ -145,7 +120,7 @@ pub fn of_doing(s: Doing) -> Called
         },
         Done::Refused(why) => Called {
             path: path,
-            words: [number(why), 0, 0, 0, 0, 0],
+            words: [why.number(), 0, 0, 0, 0, 0],
         },
     }
 }
@@ -161,7 +136,7 @@ pub fn of_len(path: Liveness, answer: LenAnswer) -> Called
         },
         LenAnswer::Refused(why) => Called {
             path: path,
-            words: [number(why), 0, 0, 0, 0, 0],
+            words: [why.number(), 0, 0, 0, 0, 0],
         },
     }
 }
@@ -196,7 +171,7 @@ pub fn of_time(path: Liveness, answer: TimeAnswer) -> Called
         },
         TimeAnswer::Refused(why) => Called {
             path: path,
-            words: [number(why), 0, 0, 0, 0, 0],
+            words: [why.number(), 0, 0, 0, 0, 0],
         },
     }
 }
@@ -218,7 +193,7 @@ pub fn of_proving(s: Proving) -> Called
         },
         ProveAnswer::Refused(why) => Called {
             path: path,
-            words: [number(why), 0, 0, 0, 0, 0],
+            words: [why.number(), 0, 0, 0, 0, 0],
         },
     }
 }
@@ -240,7 +215,7 @@ pub fn of_raising(s: Raising) -> Called
         },
         RaiseAnswer::Refused(why) => Called {
             path: path,
-            words: [number(why), 0, 0, 0, 0, 0],
+            words: [why.number(), 0, 0, 0, 0, 0],
         },
     }
 }
@@ -262,7 +237,7 @@ pub fn of_judging(s: Judging) -> Called
         },
         JudgeAnswer::Refused(why) => Called {
             path: path,
-            words: [number(why), 0, 0, 0, 0, 0],
+            words: [why.number(), 0, 0, 0, 0, 0],
         },
     }
 }

@@ -1,7 +1,8 @@
 // The sizes that a probing path steps down, once a probe above the smallest size has lapsed.
 ghost use mathlib.Core.Path.{_≡_};
-ghost use Rattle.seek.specs.Ladder.{fitsOf, rungOf, sizeOf};
+ghost use Rattle.seek.specs.Ladder.{fitsOf, rungOf, ladderSize};
 use crate::types::*;
+use base::limits::PATH_PROBE_MIN_SIZE;
 use base::types::*;
 
 // Whether a size is below the last one and above the smallest.
@@ -34,7 +35,7 @@ pub fn rung(full: u16, last: u16) -> u16
 
 // The size of the next probe: full unless fallen with a last size.
 pub fn size(l: Ladder, full: u16) -> u16
-    ensures { λ r. ⌜ r ≡ sizeOf l full ⌝ }
+    ensures { λ r. ⌜ r ≡ ladderSize l full ⌝ }
 {
     if !l.fallen {
         return full;

@@ -1,9 +1,9 @@
 -- Tests of a list in a row are one test.
 -- Assumes nothing.
 use mathlib.Core.Path.{_≡_, refl, ap}
-use mathlib.Core.Bool.{Bool, true, false, not, _&&_, _||_}
+use mathlib.Core.Bool.{Bool, true, false, not, cond, _&&_, _||_}
 use mathlib.Core.List.{List, [], _∷_}
-use Rattle.base.specs.Seq.{pick, every, keep}
+use Rattle.base.specs.Seq.{every, keep}
 use Rattle.base.proofs.Cases.{on-flag}
 
 module _ {A : Type 0} where
@@ -27,7 +27,7 @@ module _ {A : Type 0} where
       on-flag (q x) (λ e. on-flag (p x) (λ f. simp (e, f)) (λ f. simp (e, f, h))) (λ e. simp (e, h))
 
   -- of those that pass q all, or those that pass p, by a flag that says whether none does
-  pub only-keep : (p q : A → Bool) (n : Bool) (l : List A) → pick n (keep q l) (keep p (keep q l)) ≡ keep (λ x. q x && (p x || not (not n))) l
+  pub only-keep : (p q : A → Bool) (n : Bool) (l : List A) → cond n (keep q l) (keep p (keep q l)) ≡ keep (λ x. q x && (p x || not (not n))) l
   only-keep p q true l =
       keep-same q (λ (x : A). q x && (p x || true)) (λ (x : A). on-flag (q x) (λ e. on-flag (p x) (λ f. simp (e, f)) (λ f. simp (e, f))) (λ e. simp e)) l
   only-keep p q false l = rw (keep-keep p q l)
