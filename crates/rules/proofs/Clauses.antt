@@ -1,14 +1,13 @@
 -- The clauses of demand 3 at one event, of books that agreed with the slots before it and do so after it.
 -- Assumes nothing.
 use Prim.Native.Nat.{ℕ, suc, _+_, _≤_, _<_}
-use mathlib.Core.Bool.{Bool, true, false, not, _&&_}
+use mathlib.Core.Bool.{Bool, true, false, not, _&&_, cond}
 use mathlib.Core.Logic.{_⊎_, inl, inr}
 use mathlib.Core.Path.{_≡_, refl, ap, sym, _∙_, subst}
 use mathlib.Core.List.{List, [], _∷_}
 use native.Mathlib.Omega.{arith}
 use lib.Dec.{eqb}
 use borrow.Author.Tests.{eq-eqb}
-use Rattle.base.specs.Seq.{pick}
 use Rattle.base.specs.declared.types.MaybeLen.{MaybeLen}
 use Rattle.base.specs.declared.types.MaybeLen.the-variants as len
 use Rattle.base.proofs.Cases.{on-flag, never}
@@ -71,7 +70,7 @@ module _ (t : Settings) (b : Book) (e : Event) (v : ℕ) where
         let parts = and-true (is Answer e && not (eqb (outSize b) 0)) (eqb (b .sizing .probe) (e .id)) q in
         let head = and-true (is Answer e) (not (eqb (outSize b) 0)) (parts .0) in
         let three : v ≡ 3 =
-        fa (head .0) ∙ ap (λ (f : Bool). pick f 3 (pick (waits (e .id) (b .probes .waiting)) 1 2)) q in
+        fa (head .0) ∙ ap (λ (f : Bool). cond f 3 (cond (waits (e .id) (b .probes .waiting)) 1 2)) q in
         let words : Every (Carries L) (Acked (outSize b) (e .acked) ∷ b .sizing .words) =
         subst (Every (Carries L)) (word-acked (head .0) three) w in
         clearing-limit L (b .marks .full) (b .sizing .tally) (size.Answer (e .acked)) n (h .limit L (words .1)) (λ y. words .0) c
@@ -82,7 +81,7 @@ module _ (t : Settings) (b : Book) (e : Event) (v : ℕ) where
     cleared-loss fl q c =
         let parts = and-true (is Judge e) (not (eqb (outSize b) 0)) (and-true (is Judge e && not (eqb (outSize b) 0)) _ q .0) in
         let words : Every (Carries L) (Lost (outSize b) ∷ b .sizing .words) =
-        subst (Every (Carries L)) (word-lost (parts .0) (fl (parts .0) ∙ ap (λ (f : Bool). pick f 1 0) q)) w in
+        subst (Every (Carries L)) (word-lost (parts .0) (fl (parts .0) ∙ ap (λ (f : Bool). cond f 1 0) q)) w in
         clearing-limit L (b .marks .full) (b .sizing .tally) size.Judge n (h .limit L (words .1)) (λ y. words .0) c
         (sym (ap (λ (x : size.Tally). x .search .proven) (tally-lost (parts .0) q)) ∙ proven)
 

@@ -7,7 +7,6 @@ use mathlib.Core.List.{List, [], _∷_}
 use lib.Dec.{eqb, leb, ltb}
 use lib.ListN.{set}
 use lib.Seq.{set-getD}
-use Rattle.base.specs.Seq.{pick}
 use Rattle.base.specs.declared.types.Refusal.{Refusal}
 use Rattle.base.specs.declared.types.Refusal.the-variants as refusal
 use Rattle.base.specs.declared.types.MaybeLen.{MaybeLen}
@@ -35,7 +34,7 @@ use Rattle.rules.specs.declared.types.Slot.{Slot}
 use Rattle.rules.specs.declared.types.Record.{Record}
 use Rattle.rules.specs.declared.types.Turn.{Turn}
 use Rattle.rules.specs.declared.types.Stepped.{Stepped}
-use Rattle.rules.proofs.Laws.{pick-cases}
+use Rattle.rules.proofs.Laws.{cond-cases}
 use Rattle.rules.proofs.Turns.{withKind, Work, slot-kept}
 
 module _ (t : Settings) (s : Slot) (e₀ : Event) where
@@ -67,14 +66,14 @@ module _ (t : Settings) (s : Slot) (e₀ : Event) where
   by-probe : Work t s e₀ N 2
   unfolding sendOf
   by-probe ok =
-      pick-cases (λ (x : Sending). N 2 (sent s x)) (ltb 65535 length′) _ _ (λ f q. refl)
-      (λ f. pick-cases (λ (x : Sending). N 2 (sent s x)) (leb 8 (firstFree (p .ring))) _ _ (λ g q. refl) (λ g q. taken q))
+      cond-cases (λ (x : Sending). N 2 (sent s x)) (ltb 65535 length′) _ _ (λ f q. refl)
+      (λ f. cond-cases (λ (x : Sending). N 2 (sent s x)) (leb 8 (firstFree (p .ring))) _ _ (λ g q. refl) (λ g q. taken q))
 
   by-ring : N 3 (turn s (answerOf p id .path) (answerReply (answerOf p id .answer)))
   unfolding answerOf
   by-ring =
-      pick-cases (λ (x : Answering). N 3 (turn s (x .path) (answerReply (x .answer)))) (ltb (found id (p .ring)) 8) (answeredAt p (found id (p .ring)) id) _ (λ f q. taken q)
-      (λ f. pick-cases (λ (x : Answering). N 3 (turn s (x .path) (answerReply (x .answer)))) (ltb (found id (p .late)) 4) (lateAt p (found id (p .late))) _ (λ g q. taken q) (λ g q. refl))
+      cond-cases (λ (x : Answering). N 3 (turn s (x .path) (answerReply (x .answer)))) (ltb (found id (p .ring)) 8) (answeredAt p (found id (p .ring)) id) _ (λ f q. taken q)
+      (λ f. cond-cases (λ (x : Answering). N 3 (turn s (x .path) (answerReply (x .answer)))) (ltb (found id (p .late)) 4) (lateAt p (found id (p .late))) _ (λ g q. taken q) (λ g q. refl))
 
   by-settled : (o : MaybeLen) (d : Settled) → N 3 (answered (live.settledBy p o d .answer) (live.settledBy p o d .path) s (e 3))
   by-settled len.None d = by-ring
@@ -83,20 +82,20 @@ module _ (t : Settings) (s : Slot) (e₀ : Event) where
   by-answer : Work t s e₀ N 3
   unfolding live.seekAnswerOf
   by-answer ok =
-      pick-cases (λ (x : Settling). N 3 (answered (x .answer) (x .path) s (e 3))) (leb (2 ^ 62) (t .gap)) _ _ (λ f. by-ring)
-      (λ f. by-settled (search.seekAnswerOf (p .sizes) id (t .gap) .len) (search.seekAnswerOf (p .sizes) id (t .gap)))
+      cond-cases (λ (x : Settling). N 3 (answered (x .answer) (x .path) s (e 3))) (leb (2 ^ 62) (t .gap)) _ _ (λ f. by-ring)
+      (λ f. by-settled (search.settledSearch (p .sizes) id (t .gap) .len) (search.settledSearch (p .sizes) id (t .gap)))
 
   by-size : (o : MaybeLen) → N 8 (searched (live.lenOr refusal.NoSize o) s (e 8))
   unfolding live.seekSendOf
   by-size len.None = λ q. refl
-  by-size (len.Some n) = pick-cases (λ (x : Sending). N 8 (sent s x)) (ltb 65535 n) (noId p refusal.Length) _ (λ f q. refl) (λ f q. taken q)
+  by-size (len.Some n) = cond-cases (λ (x : Sending). N 8 (sent s x)) (ltb 65535 n) (noId p refusal.Length) _ (λ f q. refl) (λ f q. taken q)
 
   by-search : Work t s e₀ N 8
   unfolding live.seekSizeOf
   by-search ok =
-      pick-cases (λ (x : LenAnswer). N 8 (searched x s (e 8))) (ltb 65535 (s .full)) _ _ (λ f q. refl)
-      (λ f. pick-cases (λ (x : LenAnswer). N 8 (searched x s (e 8))) (ltb (s .full) 27) _ _ (λ g q. refl)
-      (λ g. by-size (search.seekSizeOf (p .sizes) (s .full) now)))
+      cond-cases (λ (x : LenAnswer). N 8 (searched x s (e 8))) (ltb 65535 (s .full)) _ _ (λ f q. refl)
+      (λ f. cond-cases (λ (x : LenAnswer). N 8 (searched x s (e 8))) (ltb (s .full) 27) _ _ (λ g q. refl)
+      (λ g. by-size (search.searchSize (p .sizes) (s .full) now)))
 
   by-lost : (lost : Bool) (q : Liveness) → N 9 (turn s q (judgeReply (live.lostAnswer lost)))
   by-lost true q = λ f. taken f
@@ -105,9 +104,9 @@ module _ (t : Settings) (s : Slot) (e₀ : Event) where
   by-judge : Work t s e₀ N 9
   unfolding live.seekJudgeOf
   by-judge ok =
-      pick-cases (λ (x : Judging). N 9 (judged s x)) (leb (2 ^ 62) span) _ _ (λ f q. refl)
-      (λ f. pick-cases (λ (x : Judging). N 9 (judged s x)) (leb (2 ^ 62) (t .gap)) _ _ (λ g q. refl)
-      (λ g. by-lost (search.seekJudgeOf (p .sizes) (p .ids .answered) now span (t .gap) .lost) _))
+      cond-cases (λ (x : Judging). N 9 (judged s x)) (leb (2 ^ 62) span) _ _ (λ f q. refl)
+      (λ f. cond-cases (λ (x : Judging). N 9 (judged s x)) (leb (2 ^ 62) (t .gap)) _ _ (λ g q. refl)
+      (λ g. by-lost (search.judgedSearch (p .sizes) (p .ids .answered) now span (t .gap) .lost) _))
 
   pub slot-left : (k : ℕ) → N k (onSlot t s (e k))
   slot-left =
@@ -117,7 +116,7 @@ module _ (t : Settings) (s : Slot) (e₀ : Event) where
 pub refused-left : (r : Record) (e : Event) → eqb (numberOf (step r e .reply)) 0 ≡ false → step r e .next ≡ r
 unfolding step choiceOf
 refused-left r e =
-    pick-cases (λ (o : Stepped). eqb (numberOf (o .reply)) 0 ≡ false → o .next ≡ r) (is Choose e) (choiceOf r e) _
+    cond-cases (λ (o : Stepped). eqb (numberOf (o .reply)) 0 ≡ false → o .next ≡ r) (is Choose e) (choiceOf r e) _
     (λ c q. refl)
     (λ c q.
     let z : onSlot (r .settings) (slotAt r (e .slot)) e .slot ≡ slotAt r (e .slot) =

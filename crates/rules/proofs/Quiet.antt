@@ -31,7 +31,7 @@ use Rattle.rules.specs.declared.types.Event.{Event}
 use Rattle.rules.specs.declared.types.Reply.the-variants as reply
 use Rattle.rules.specs.declared.types.Slot.{Slot}
 use Rattle.rules.specs.declared.types.Turn.{Turn}
-use Rattle.rules.proofs.Laws.{pick-cases, or-false, occ}
+use Rattle.rules.proofs.Laws.{cond-cases, or-false, occ}
 use Rattle.rules.proofs.Ids.{known-less}
 use Rattle.rules.proofs.Turns.{Next, refused, withKind, Work}
 use Rattle.rules.proofs.Line.{laneOf, probeOf, outCount, inHand, line-send}
@@ -80,9 +80,9 @@ module _ (t : Settings) (s : Slot) (b₀ : Book) where
     pub by-sample : Work t s e₀ N 5
     unfolding noted times.sampleOf
     by-sample ok =
-        pick-cases (λ (x : Doing). N 5 (turn s (x .path) reply.Nothing)) (leb (2 ^ 62) (e₀ .span)) _ _ (λ f few. same t s b₀ h p refl refl)
-        (λ f. pick-cases (λ (x : Doing). N 5 (turn s (x .path) reply.Nothing)) (leb (2 ^ 62) (t .window)) _ _ (λ f few. same t s b₀ h p refl refl)
-        (λ f. pick-cases (λ (x : Doing). N 5 (turn s (x .path) reply.Nothing)) (leb (2 ^ 62) (t .horizon)) _ _ (λ f few. same t s b₀ h p refl refl)
+        cond-cases (λ (x : Doing). N 5 (turn s (x .path) reply.Nothing)) (leb (2 ^ 62) (e₀ .span)) _ _ (λ f few. same t s b₀ h p refl refl)
+        (λ f. cond-cases (λ (x : Doing). N 5 (turn s (x .path) reply.Nothing)) (leb (2 ^ 62) (t .window)) _ _ (λ f few. same t s b₀ h p refl refl)
+        (λ f. cond-cases (λ (x : Doing). N 5 (turn s (x .path) reply.Nothing)) (leb (2 ^ 62) (t .horizon)) _ _ (λ f few. same t s b₀ h p refl refl)
         (λ f few. same t s b₀ h _ refl refl)))
 
     pub by-fold : Work t s e₀ N 6
@@ -117,7 +117,7 @@ module _ (t : Settings) (s : Slot) (b₀ : Book) where
     pub by-data : Work t s e₀ N 10
     unfolding times.heardOf
     by-data ok =
-        pick-cases (λ (x : Doing). N 10 (turn s (times.carriedOf (x .path) now) reply.Nothing)) (ltb 65535 size)
+        cond-cases (λ (x : Doing). N 10 (turn s (times.carriedOf (x .path) now) reply.Nothing)) (ltb 65535 size)
         (times.refusedDoing p refusal.Length) (times.doneWith (withTraffic p (times.heardTraffic (p .traffic) size now)))
         (λ f. data-kept (p .traffic)) (λ f. data-kept (times.heardTraffic (p .traffic) size now))
 
@@ -168,10 +168,10 @@ module _ (t : Settings) (s : Slot) (b₀ : Book) where
     pub by-probe : Work t s e₀ N 2
     unfolding sendOf
     by-probe ok =
-        pick-cases (λ (x : Sending). N 2 (sent s x)) (ltb 65535 size) _ _ (λ f. no 2 refusal.Length)
-        (λ f. pick-cases (λ (x : Sending). N 2 (sent s x)) (leb 8 (firstFree (p .ring))) _ _ (λ g. no 2 refusal.Full)
+        cond-cases (λ (x : Sending). N 2 (sent s x)) (ltb 65535 size) _ _ (λ f. no 2 refusal.Length)
+        (λ f. cond-cases (λ (x : Sending). N 2 (sent s x)) (leb 8 (firstFree (p .ring))) _ _ (λ g. no 2 refusal.Full)
         (λ g.
-        pick-cases (λ (m : Ids). N 2 (sent s (sentAt p (firstFree (p .ring)) m (takenOf (m .«next_id») (e₀ .id)) now (e₀ .span) size)))
+        cond-cases (λ (m : Ids). N 2 (sent s (sentAt p (firstFree (p .ring)) m (takenOf (m .«next_id») (e₀ .id)) now (e₀ .span) size)))
         (allCount (p .ids .since) (p .ring)) _ _
         (λ k. sent-kept mid.None g)
         (λ k. sent-kept (p .ids .since) g)))

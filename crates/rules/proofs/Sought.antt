@@ -1,13 +1,12 @@
 -- The events of the size search: prove, search, judge and fresh.
 -- Assumes nothing.
 use Prim.Native.Nat.{ℕ, _+_, _≤_, _^_}
-use mathlib.Core.Bool.{Bool, true, false, not, _&&_, _||_}
+use mathlib.Core.Bool.{Bool, true, false, not, _&&_, _||_, cond}
 use mathlib.Core.Path.{_≡_, refl, ap, sym, _∙_, subst}
 use mathlib.Core.List.{[], _∷_}
 use native.Mathlib.Omega.{arith}
 use lib.Dec.{eqb, leb, ltb}
 use borrow.Author.Tests.{eqb-true, eq-eqb}
-use Rattle.base.specs.Seq.{pick}
 use Rattle.base.specs.declared.types.Refusal.{Refusal}
 use Rattle.base.specs.declared.types.Refusal.the-variants as refusal
 use Rattle.base.specs.declared.types.MaybeLen.{MaybeLen}
@@ -35,7 +34,7 @@ use Rattle.rules.specs.declared.types.Event.{Event}
 use Rattle.rules.specs.declared.types.Reply.the-variants as reply
 use Rattle.rules.specs.declared.types.Slot.{Slot}
 use Rattle.rules.specs.declared.types.Turn.{Turn}
-use Rattle.rules.proofs.Laws.{pick-cases, or-false, occ}
+use Rattle.rules.proofs.Laws.{cond-cases, or-false, occ}
 use Rattle.rules.proofs.Turns.{Next, refused, withKind, Work}
 use Rattle.rules.proofs.Line.{Lane, laneOf, outCount, none-count, Line, line-less, line-search}
 use Rattle.rules.proofs.Agree.{Inv, align, same, move-kept, known, and-true, not-zero}
@@ -84,10 +83,10 @@ module _ (t : Settings) (s : Slot) (b₀ : Book) where
           limit = λ L w. under-move L (s .full) T size.Fresh (h .limit L w) tt;
         }
 
-    proved-kept : ltb (e₀ .len) 27 ≡ false → N 7 (turn s (withSizes p (search.proveOf z (e₀ .len) .sizes)) reply.Nothing)
+    proved-kept : ltb (e₀ .len) 27 ≡ false → N 7 (turn s (withSizes p (search.provenSizes z (e₀ .len) .sizes)) reply.Nothing)
     unfolding noted
     proved-kept g few =
-        let q : move (s .full) T (size.Prove (e₀ .len)) .search ≡ searchIn (search.proveOf z (e₀ .len) .sizes) = rw g in
+        let q : move (s .full) T (size.Prove (e₀ .len)) .search ≡ searchIn (search.provenSizes z (e₀ .len) .sizes) = rw g in
         let out : move (s .full) T (size.Prove (e₀ .len)) .search .out ≡ z .seek .len = ap (λ (x : size.Search). x .out) q in
         record {
           agrees = record {
@@ -106,9 +105,9 @@ module _ (t : Settings) (s : Slot) (b₀ : Book) where
     unfolding live.proveOf
     by-prove ok =
         let r = or-false (ltb 65535 (e₀ .len) || false) (ltb (e₀ .len) 27) (ok .1 .1 .1 .1 .1 .0) in
-        pick-cases (λ (x : Proving). N 7 (turn s (x .path) reply.Nothing)) (ltb 65535 (e₀ .len)) _ _
+        cond-cases (λ (x : Proving). N 7 (turn s (x .path) reply.Nothing)) (ltb 65535 (e₀ .len)) _ _
         (λ f. never f (or-false (ltb 65535 (e₀ .len)) false (r .0) .0))
-        (λ f. pick-cases (λ (x : Proving). N 7 (turn s (x .path) reply.Nothing)) (ltb (e₀ .len) 27) _ _ (λ g. never g (r .1)) proved-kept)
+        (λ f. cond-cases (λ (x : Proving). N 7 (turn s (x .path) reply.Nothing)) (ltb (e₀ .len) 27) _ _ (λ g. never g (r .1)) proved-kept)
 
     -- ---- search
 
@@ -116,21 +115,21 @@ module _ (t : Settings) (s : Slot) (b₀ : Book) where
     abbrev Proposes : ℕ → Type 0
     Proposes n = (z .seek .len ≡ 0) × (search.proposeOf (z .seek .lost) (z .proven) (s .full) ≡ len.Some n)
 
-    proposes : (n : ℕ) → search.seekSizeOf z (s .full) now ≡ len.Some n → Proposes n
-    unfolding search.seekSizeOf
+    proposes : (n : ℕ) → search.searchSize z (s .full) now ≡ len.Some n → Proposes n
+    unfolding search.searchSize
     proposes n q = go (eqb (z .seek .len) 0) (search.mayTry (z .seek .at) now) refl q
       where
         go : (f g : Bool) → eqb (z .seek .len) 0 ≡ f
-            → pick (f && g) (search.proposeOf (z .seek .lost) (z .proven) (s .full)) len.None ≡ len.Some n → Proposes n
+            → cond (f && g) (search.proposeOf (z .seek .lost) (z .proven) (s .full)) len.None ≡ len.Some n → Proposes n
         go true true f q = (eqb-true (z .seek .len) 0 f, q)
         go true false f q = none-some q
         go false g f q = none-some q
 
-    out-most : (n v x : ℕ) → pick (eqb n 0) 0 (occ x (v ∷ [])) ≤ occ x (v ∷ [])
-    out-most n v x = pick-cases (λ (m : ℕ). m ≤ occ x (v ∷ [])) (eqb n 0) 0 (occ x (v ∷ [])) (λ f. omega arith) (λ f. omega arith)
+    out-most : (n v x : ℕ) → cond (eqb n 0) 0 (occ x (v ∷ [])) ≤ occ x (v ∷ [])
+    out-most n v x = cond-cases (λ (m : ℕ). m ≤ occ x (v ∷ [])) (eqb n 0) 0 (occ x (v ∷ [])) (λ f. omega arith) (λ f. omega arith)
 
     searched-kept : (n : ℕ) → Proposes n → N 8 (sent s (live.seekSentAt (takeIdOf p (e₀ .id) .path) now n (takeIdOf p (e₀ .id) .id)))
-    unfolding noted search.seekSendOf
+    unfolding noted search.sentSearch
     searched-kept n q few =
         let v : ℕ = takenOf (p .ids .«next_id») (e₀ .id) in
         record {
@@ -141,7 +140,7 @@ module _ (t : Settings) (s : Slot) (b₀ : Book) where
             probeAt = λ o. refl;
           };
           line =
-              line-search t (laneOf p) (b .probes) (outCount z) (h .line) (e₀ .id) (λ x. pick (eqb n 0) 0 (occ x (v ∷ [])))
+              line-search t (laneOf p) (b .probes) (outCount z) (h .line) (e₀ .id) (λ x. cond (eqb n 0) 0 (occ x (v ∷ [])))
               (out-most n (takenOf (p .ids .«next_id») (e₀ .id))) few;
           whole = h .whole;
           sizing = move-kept t s b₀ h size.Send;
@@ -152,15 +151,15 @@ module _ (t : Settings) (s : Slot) (b₀ : Book) where
     unfolding live.seekSendOf
     by-size len.None q = no 8 refusal.NoSize
     by-size (len.Some n) q =
-        pick-cases (λ (x : Sending). N 8 (sent s x)) (ltb 65535 n) (noId p refusal.Length) _
+        cond-cases (λ (x : Sending). N 8 (sent s x)) (ltb 65535 n) (noId p refusal.Length) _
         (λ f. no 8 refusal.Length) (λ f. searched-kept n (q n refl))
 
     pub by-search : Work t s e₀ N 8
     unfolding live.seekSizeOf
     by-search ok =
-        pick-cases (λ (x : LenAnswer). N 8 (searched x s (e 8))) (ltb 65535 (s .full)) _ _ (λ f. no 8 refusal.Length)
-        (λ f. pick-cases (λ (x : LenAnswer). N 8 (searched x s (e 8))) (ltb (s .full) 27) _ _ (λ g. no 8 refusal.Length)
-        (λ g. by-size (search.seekSizeOf z (s .full) now) proposes))
+        cond-cases (λ (x : LenAnswer). N 8 (searched x s (e 8))) (ltb 65535 (s .full)) _ _ (λ f. no 8 refusal.Length)
+        (λ f. cond-cases (λ (x : LenAnswer). N 8 (searched x s (e 8))) (ltb (s .full) 27) _ _ (λ g. no 8 refusal.Length)
+        (λ g. by-size (search.searchSize z (s .full) now) proposes))
 
     -- ---- judge
 
@@ -217,11 +216,11 @@ module _ (t : Settings) (s : Slot) (b₀ : Book) where
         (yes : lost ≡ true → Q (turn s (withSizes p (search.dropOf z (knownOf 27 (z .proven)) now (t .gap) .sizes)) reply.Lost))
         (wait : lost ≡ false → Q (turn s p reply.Waits)) where
       pub judge-cases : Q (judged s (live.seekJudgeOf p now (e₀ .span) (t .gap)))
-      unfolding live.seekJudgeOf search.seekJudgeOf
+      unfolding live.seekJudgeOf search.judgedSearch
       judge-cases =
-          pick-cases (λ (x : Judging). Q (judged s x)) (leb (2 ^ 62) (e₀ .span)) _ _ (λ f. no)
-          (λ f. pick-cases (λ (x : Judging). Q (judged s x)) (leb (2 ^ 62) (t .gap)) _ _ (λ g. no)
-          (λ g. pick-cases (λ (x : Judged). Q (judged s (live.judgedBy p x))) lost _ _ yes wait))
+          cond-cases (λ (x : Judging). Q (judged s x)) (leb (2 ^ 62) (e₀ .span)) _ _ (λ f. no)
+          (λ f. cond-cases (λ (x : Judging). Q (judged s x)) (leb (2 ^ 62) (t .gap)) _ _ (λ g. no)
+          (λ g. cond-cases (λ (x : Judged). Q (judged s (live.judgedBy p x))) lost _ _ yes wait))
 
     pub by-judge : Work t s e₀ N 9
     by-judge ok =

@@ -1,7 +1,7 @@
 -- Demand 3 of every list: record and books stay together from event to event, and each clause holds along the list.
 -- Assumes nothing.
 use Prim.Native.Nat.{ℕ, zero, suc, _+_, _≤_, _<_, _^_}
-use mathlib.Core.Bool.{Bool, true, false, _&&_, _||_}
+use mathlib.Core.Bool.{Bool, true, false, _&&_, _||_, cond}
 use mathlib.Core.Path.{_≡_, refl, ap, sym, _∙_, subst}
 use mathlib.Core.List.{List, [], _∷_}
 use native.Mathlib.Omega.{arith}
@@ -9,7 +9,6 @@ use lib.Dec.{eqb, ltb}
 use lib.ListN.{length, length-set, getD, getD-replicate, set, replicate}
 use lib.Seq.{getD-set-same, getD-set-other}
 use borrow.Author.Tests.{lt-ltb, eqb-true, eqb-false, eq-eqb}
-use Rattle.base.specs.Seq.{pick}
 use Rattle.base.specs.declared.types.Refusal.{Refusal}
 use Rattle.base.specs.declared.types.Refusal.the-variants as refusal
 use Rattle.base.proofs.Cases.{on-flag, on-order, never}
@@ -28,7 +27,7 @@ use Rattle.rules.specs.declared.types.Slot.{Slot}
 use Rattle.rules.specs.declared.types.Record.{Record}
 use Rattle.rules.specs.declared.types.Turn.{Turn}
 use Rattle.rules.specs.declared.types.Stepped.{Stepped}
-use Rattle.rules.proofs.Laws.{pick-cases, refused-number}
+use Rattle.rules.proofs.Laws.{cond-cases, refused-number}
 use Rattle.rules.proofs.Turns.{after, Next, withKind, by-number}
 use Rattle.rules.proofs.Agree.{Inv, new-inv}
 use Rattle.rules.proofs.Kept.{Says, kept, said}
@@ -52,9 +51,9 @@ getD-past (s ∷ l) (suc k) h = getD-past l k (omega arith)
 beyond : (t : Settings) (s : Slot) (e : Event) → ltb 7 (e .slot) ≡ true → (why : Refusal) × (onSlot t s e ≡ turn s (s .path) (reply.Refused why))
 unfolding onSlot
 beyond t s e q =
-    pick-cases (λ (u : Turn). (why : Refusal) × (u ≡ turn s (s .path) (reply.Refused why))) (ltb (e .kind) 1 || ltb 15 (e .kind)) _ _
+    cond-cases (λ (u : Turn). (why : Refusal) × (u ≡ turn s (s .path) (reply.Refused why))) (ltb (e .kind) 1 || ltb 15 (e .kind)) _ _
     (λ f. (refusal.Kind, refl))
-    (λ f. pick-cases (λ (u : Turn). (why : Refusal) × (u ≡ turn s (s .path) (reply.Refused why))) (ltb 7 (e .slot)) _ _
+    (λ f. cond-cases (λ (u : Turn). (why : Refusal) × (u ≡ turn s (s .path) (reply.Refused why))) (ltb 7 (e .slot)) _ _
     (λ g. (refusal.Slot, refl))
     (λ g. never q g))
 
@@ -87,7 +86,7 @@ module _ (t : Settings) (small : allowed t ≡ true) (r : Record) (bs : Books) (
 
   choose-note : (o : Stepped) → is Choose e ≡ true → (j : ℕ) → note t bs (entry e o) j ≡ bs j
   choose-note o q j =
-      pick-cases (λ (b : Book). b ≡ bs j) (eqb (numberOf (o .reply)) 0 && eqb (e .slot) j) _ _
+      cond-cases (λ (b : Book). b ≡ bs j) (eqb (numberOf (o .reply)) 0 && eqb (e .slot) j) _ _
       (λ f. choose-noted (bs j) (valueOf (o .reply)) q) (λ f. refl)
 
   not-both : {X : Type 0} (k l : Kind) → is k e ≡ true → is l e ≡ true → (kindNumber k ≡ kindNumber l → ⊥) → X
@@ -124,11 +123,11 @@ module _ (t : Settings) (small : allowed t ≡ true) (r : Record) (bs : Books) (
 
   note-own : note t bs (entry e o) i ≡ after t (bs i) e u
   note-own =
-      ap (λ (f : Bool). pick f (noted t (bs i) e (valueOf (u .reply))) (bs i)) (and-one (eqb (numberOf (u .reply)) 0) (eqb i i) (eq-eqb i i refl))
+      ap (λ (f : Bool). cond f (noted t (bs i) e (valueOf (u .reply))) (bs i)) (and-one (eqb (numberOf (u .reply)) 0) (eqb i i) (eq-eqb i i refl))
 
   note-other : (j : ℕ) → eqb i j ≡ false → note t bs (entry e o) j ≡ bs j
   note-other j q =
-      ap (λ (f : Bool). pick f (noted t (bs j) e (valueOf (u .reply))) (bs j)) (and-none (eqb (numberOf (u .reply)) 0) (eqb i j) q)
+      ap (λ (f : Bool). cond f (noted t (bs j) e (valueOf (u .reply))) (bs j)) (and-none (eqb (numberOf (u .reply)) 0) (eqb i j) q)
 
   -- the slot of the event, one of the eight
   own-held : i < 8 → note t bs (entry e o) i .probes .drawn < 2 ^ 32 → Inv t (slotAt (o .next) i) (note t bs (entry e o) i)
@@ -148,7 +147,7 @@ module _ (t : Settings) (small : allowed t ≡ true) (r : Record) (bs : Books) (
       let n : after t (bs i) e u ≡ bs i =
       with-t (λ (x : Turn). after t (bs i) e x ≡ bs i)
       (subst (λ (x : Turn). after t (bs i) e x ≡ bs i) (sym (w .1))
-      (ap (λ (f : Bool). pick f (noted t (bs i) e 0) (bs i)) (refused-number (w .0)))) in
+      (ap (λ (f : Bool). cond f (noted t (bs i) e 0) (bs i)) (refused-number (w .0)))) in
       subst (Inv t (slotAt (o .next) i)) (sym (note-own ∙ n)) (subst (λ (x : Slot). Inv t x (bs i)) (sym q) (g .slots i))
 
   -- any other slot
@@ -180,7 +179,7 @@ module _ (t : Settings) (small : allowed t ≡ true) (r : Record) (bs : Books) (
 
   did : Did t r bs e (step r e)
   unfolding step
-  did = pick-cases (Did t r bs e) (is Choose e) (choiceOf r e) (put r i u) choose-did slot-did
+  did = cond-cases (Did t r bs e) (is Choose e) (choiceOf r e) (put r i u) choose-did slot-did
 
 -- ---- the list
 

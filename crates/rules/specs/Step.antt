@@ -1,12 +1,11 @@
 -- The record, one event on it, and a list of events (document 01, "Peer record": "each event gets the record that the last one returned
 -- or, refused, left").
 use Prim.Native.Nat.{ℕ, suc, _^_}
-use mathlib.Core.Bool.{Bool, true, false, not, _&&_}
+use mathlib.Core.Bool.{Bool, true, false, not, _&&_, cond}
 use mathlib.Core.List.{List, [], _∷_}
 use lib.Dec.{ltb}
 use lib.Ieee.{Float, nan, inf, fin, binary64, ofBits, le}
 use lib.ListN.{getD, set, replicate}
-use Rattle.base.specs.Seq.{pick}
 use Rattle.base.specs.declared.types.Refusal.the-variants as refusal
 use Rattle.base.specs.declared.types.MaybeTime.{MaybeTime}
 use Rattle.base.specs.declared.types.MaybeTime.the-variants as time
@@ -39,7 +38,7 @@ abbrev pub freshRecord : Settings → Record
 freshRecord t = record { settings = t; slots = replicate 8 emptySlot }
 
 unfoldable pub recordOf : Settings → Stepped
-recordOf t = record { next = freshRecord t; reply = pick (allowed t) reply.Nothing (reply.Refused refusal.Duration) }
+recordOf t = record { next = freshRecord t; reply = cond (allowed t) reply.Nothing (reply.Refused refusal.Duration) }
 
 -- the slot with a number, and the record with that slot changed
 abbrev pub slotAt : Record → ℕ → Slot
@@ -108,13 +107,13 @@ choiceReply rival.None = reply.Refused refusal.NoPath
 
 unfoldable pub choiceOf : Record → Event → Stepped
 choiceOf r e =
-    record { next = r; reply = pick (isMargin (marginOf e)) (choiceReply (pickedOf (rivalsFrom 0 (r .slots)) (marginOf e))) (reply.Refused refusal.Margin) }
+    record { next = r; reply = cond (isMargin (marginOf e)) (choiceReply (pickedOf (rivalsFrom 0 (r .slots)) (marginOf e))) (reply.Refused refusal.Margin) }
 
 -- ---- events
 
 -- one event: "Choose reads no slot"; all others do their work on one
 unfoldable pub step : Record → Event → Stepped
-step r e = pick (is Choose e) (choiceOf r e) (put r (e .slot) (onSlot (r .settings) (slotAt r (e .slot)) e))
+step r e = cond (is Choose e) (choiceOf r e) (put r (e .slot) (onSlot (r .settings) (slotAt r (e .slot)) e))
 
 -- the record after a list of events
 abbrev pub run : Record → List Event → Record
