@@ -1,11 +1,14 @@
 -- What slot and book have in common, and the facts that each event keeps of them.
 -- Assumes nothing.
 use Prim.Native.Nat.{ℕ, zero, suc, _+_, _≤_, _<_, _^_}
-use mathlib.Core.Bool.{Bool, true, false, not, _&&_}
+use mathlib.Core.Bool.{Bool, true, false, not, _&&_, cond}
 use mathlib.Core.Path.{_≡_, refl, ap, sym, _∙_, subst}
+use mathlib.Core.List.{[], _∷_}
 use native.Mathlib.Omega.{arith}
 use lib.Dec.{eqb, leb, ltb}
-use borrow.Author.Tests.{ltb-true, lt-leb}
+use borrow.Author.Tests.{leb-false}
+use Rattle.base.specs.Limits.{durationEnd, isEndless}
+use Rattle.base.specs.Seq.{every}
 use Rattle.base.specs.declared.types.MaybeLen.the-variants as len
 use Rattle.base.proofs.Cases.{never}
 use Rattle.seek.specs.declared.types.Sizes.{Sizes}
@@ -107,23 +110,25 @@ not-zero (suc n) e = omega arith
 
 -- allowed settings
 module _ (t : Settings) (small : allowed t ≡ true) where
-  abbrev c₁ : Bool
-  c₁ = ltb (t .cap) (2 ^ 62)
+  both : (a b : Bool) → cond a b false ≡ true → (a ≡ true) × (b ≡ true)
+  both true b e = (refl, e)
+  both false b e = never {t = false} e refl
 
-  abbrev c₂ : Bool
-  c₂ = ltb (t .gap) (2 ^ 62)
+  not-true : (a : Bool) → not a ≡ true → a ≡ false
+  not-true true e = never {t = false} e refl
+  not-true false e = refl
 
-  abbrev c₃ : Bool
-  c₃ = ltb (t .window) (2 ^ 62)
+  abbrev rest : Bool
+  rest = every (λ d. not (isEndless d)) (t .window ∷ t .horizon ∷ [])
 
-  both-small : (c₁ ≡ true) × (c₂ ≡ true)
-  both-small = and-true c₁ c₂ (and-true (c₁ && c₂) c₃ (and-true (c₁ && c₂ && c₃) (ltb (t .horizon) (2 ^ 62)) small .0) .0)
+  cap-and : (not (isEndless (t .cap)) ≡ true) × (cond (not (isEndless (t .gap))) rest false ≡ true)
+  cap-and = both (not (isEndless (t .cap))) _ small
 
-  pub cap-small : t .cap < 2 ^ 62
-  cap-small = ltb-true (t .cap) (2 ^ 62) (both-small .0)
+  pub cap-small : t .cap < durationEnd
+  cap-small = leb-false durationEnd (t .cap) (not-true (isEndless (t .cap)) (cap-and .0))
 
-  pub gap-small : leb (2 ^ 62) (t .gap) ≡ false
-  gap-small = lt-leb (2 ^ 62) (t .gap) (ltb-true (t .gap) (2 ^ 62) (both-small .1))
+  pub gap-small : isEndless (t .gap) ≡ false
+  gap-small = not-true (isEndless (t .gap)) (both (not (isEndless (t .gap))) _ (cap-and .1) .0)
 
 -- ---- a slot and its aligned book
 

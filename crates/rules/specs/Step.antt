@@ -1,11 +1,12 @@
 -- The record, one event on it, and a list of events (document 01, "Peer record": "each event gets the record that the last one returned
 -- or, refused, left").
-use Prim.Native.Nat.{ℕ, suc, _^_}
-use mathlib.Core.Bool.{Bool, true, false, not, _&&_, cond}
+use Prim.Native.Nat.{ℕ, suc}
+use mathlib.Core.Bool.{Bool, true, false, not, cond}
 use mathlib.Core.List.{List, [], _∷_}
-use lib.Dec.{ltb}
 use lib.Ieee.{Float, nan, inf, fin, binary64, ofBits, le}
 use lib.ListN.{getD, set, replicate}
+use Rattle.base.specs.Limits.{isEndless}
+use Rattle.base.specs.Seq.{every}
 use Rattle.base.specs.declared.types.Refusal.the-variants as refusal
 use Rattle.base.specs.declared.types.MaybeTime.{MaybeTime}
 use Rattle.base.specs.declared.types.MaybeTime.the-variants as time
@@ -31,7 +32,7 @@ use Rattle.rules.specs.declared.types.Stepped.{Stepped}
 
 -- "Settings: cap, gap, window, horizon; with one of 2^62 or more, no record is made (6)"
 abbrev pub allowed : Settings → Bool
-allowed t = ltb (t .cap) (2 ^ 62) && ltb (t .gap) (2 ^ 62) && ltb (t .window) (2 ^ 62) && ltb (t .horizon) (2 ^ 62)
+allowed t = every (λ d. not (isEndless d)) (t .cap ∷ t .gap ∷ t .window ∷ t .horizon ∷ [])
 
 -- eight empty slots
 abbrev pub freshRecord : Settings → Record
