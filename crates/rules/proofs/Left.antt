@@ -5,6 +5,9 @@ use mathlib.Core.Bool.{Bool, true, false, not, _&&_}
 use mathlib.Core.Path.{_≡_, refl, ap, sym, _∙_, subst}
 use mathlib.Core.List.{List, [], _∷_}
 use lib.Dec.{eqb, leb, ltb}
+use borrow.Author.Tests.{eqb-false}
+use Rattle.base.specs.Seq.{every}
+use Rattle.base.specs.Refusals.{refusalNumber}
 use lib.ListN.{set}
 use lib.Seq.{set-getD}
 use Rattle.base.specs.declared.types.Refusal.{Refusal}
@@ -26,7 +29,7 @@ use Rattle.live.specs.declared.types.Settling.{Settling}
 use Rattle.live.specs.declared.types.Judging.{Judging}
 use Rattle.live.specs.declared.types.JudgeAnswer.{JudgeAnswer}
 use Rattle.rules.specs.Event.{Choose, is, numberOf}
-use Rattle.rules.specs.Rules.{emptySlot, turn, sent, judged, judgeReply, answerReply, answered, searched, onSlot}
+use Rattle.rules.specs.Rules.{emptySlot, turn, sent, judged, judgeReply, answerReply, answered, searched, refusals, isClear, onSlot}
 use Rattle.rules.specs.Step.{slotAt, put, choiceOf, step}
 use Rattle.rules.specs.declared.types.Settings.{Settings}
 use Rattle.rules.specs.declared.types.Event.{Event}
@@ -34,7 +37,7 @@ use Rattle.rules.specs.declared.types.Slot.{Slot}
 use Rattle.rules.specs.declared.types.Record.{Record}
 use Rattle.rules.specs.declared.types.Turn.{Turn}
 use Rattle.rules.specs.declared.types.Stepped.{Stepped}
-use Rattle.rules.proofs.Laws.{cond-cases}
+use Rattle.rules.proofs.Laws.{cond-cases, Passes, refused-or, refused-number}
 use Rattle.rules.proofs.Turns.{withKind, Work, slot-kept}
 
 module _ (t : Settings) (s : Slot) (e₀ : Event) where
@@ -122,3 +125,14 @@ refused-left r e =
     let z : onSlot (r .settings) (slotAt r (e .slot)) e .slot ≡ slotAt r (e .slot) =
     slot-left (r .settings) (slotAt r (e .slot)) e (e .kind) q in
     ap (λ (l : List Slot). record { settings = r .settings; slots = l }) (ap (set (r .slots) (e .slot)) z ∙ set-getD (r .slots) (e .slot) emptySlot))
+
+-- an accepted event is clear: no condition of the refusals' list holds
+passes-clear : (l : List (Refusal × Bool)) → Passes l → every (λ (x : Refusal × Bool). not (x .1)) l ≡ true
+passes-clear [] ok = refl
+passes-clear (x ∷ l) ok = rw (ok .0) (passes-clear l (ok .1))
+
+pub accepted-clear : (t : Settings) (s : Slot) (e : Event) → numberOf (onSlot t s e .reply) ≡ 0 → isClear (s .used) e ≡ true
+unfolding onSlot isClear
+accepted-clear t s e =
+    refused-or (λ (u : Turn). numberOf (u .reply) ≡ 0 → isClear (s .used) e ≡ true) (refusals (s .used) e) s _
+    (λ why n. absurd (eqb-false (refusalNumber why) 0 (refused-number why) n)) (λ ok n. passes-clear (refusals (s .used) e) ok)
