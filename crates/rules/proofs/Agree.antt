@@ -162,9 +162,9 @@ module _ (t : Settings) (s : Slot) (b₀ : Book) where
         }
 
     -- the search after a move
-    pub move-kept : (m : size.Move) (k : ℕ) → s .full ≤ 27 + span k → Kept (s .full) k (move (s .full) (b .sizing .tally) m)
-    move-kept m k w = by-move (s .full) k w (b .sizing .tally) m (h .sizing k w)
+    pub move-kept : (m : size.Move) (k : ℕ) → s .label .full ≤ 27 + span k → Kept (s .label .full) k (move (s .label .full) (b .sizing .tally) m)
+    move-kept m k w = by-move (s .label .full) k w (b .sizing .tally) m (h .sizing k w)
 
     -- where a probe is out something is proven, and the probe is no longer than full
-    pub known : 1 ≤ z .seek .len → (z .seek .len ≤ s .full) × ((n : ℕ) × (z .proven ≡ len.Some n))
-    known o = out-of (s .full) 11 (b .sizing .tally) (h .sizing 11 (omega (arith, h .whole))) o
+    pub known : 1 ≤ z .seek .len → (z .seek .len ≤ s .label .full) × ((n : ℕ) × (z .proven ≡ len.Some n))
+    known o = out-of (s .label .full) 11 (b .sizing .tally) (h .sizing 11 (omega (arith, h .whole))) o

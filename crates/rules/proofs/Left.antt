@@ -96,9 +96,9 @@ module _ (t : Settings) (s : Slot) (e₀ : Event) where
   by-search : Work t s e₀ N 8
   unfolding live.seekSizeOf
   by-search ok =
-      cond-cases (λ (x : LenAnswer). N 8 (searched x s (e 8))) (ltb 65535 (s .full)) _ _ (λ f q. refl)
-      (λ f. cond-cases (λ (x : LenAnswer). N 8 (searched x s (e 8))) (ltb (s .full) 27) _ _ (λ g q. refl)
-      (λ g. by-size (search.searchSize (p .sizes) (s .full) now)))
+      cond-cases (λ (x : LenAnswer). N 8 (searched x s (e 8))) (ltb 65535 (s .label .full)) _ _ (λ f q. refl)
+      (λ f. cond-cases (λ (x : LenAnswer). N 8 (searched x s (e 8))) (ltb (s .label .full) 27) _ _ (λ g q. refl)
+      (λ g. by-size (search.searchSize (p .sizes) (s .label .full) now)))
 
   by-lost : (lost : Bool) (q : Liveness) → N 9 (turn s q (judgeReply (live.lostAnswer lost)))
   by-lost true q = λ f. taken f

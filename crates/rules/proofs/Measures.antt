@@ -179,7 +179,7 @@ module _ (t : Settings) (s : Slot) (e₀ : Event) (h : E (s .path)) where
                   (
                     by-judge,
                     (
-                      λ ok. searched-etx _,
+                      λ ok. searched-etx (live.seekSizeOf p (s .label .full) (e₀ .now)),
                       (
                         by-prove,
                         (λ ok. fold-within _ _, (by-sample, (by-poll, (by-answer, (by-probe, (λ ok. one-within, tt)))))),

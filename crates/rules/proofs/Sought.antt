@@ -80,14 +80,14 @@ module _ (t : Settings) (s : Slot) (b₀ : Book) where
           line = line-less t (laneOf p) (b .probes) (outCount z) (λ x. 0) (λ x. omega arith) (h .line);
           whole = h .whole;
           sizing = move-kept t s b₀ h size.Fresh;
-          limit = λ L w. under-move L (s .full) T size.Fresh (h .limit L w) tt;
+          limit = λ L w. under-move L (s .label .full) T size.Fresh (h .limit L w) tt;
         }
 
     proved-kept : ltb (e₀ .len) 27 ≡ false → N 7 (turn s (withSizes p (search.provenSizes z (e₀ .len) .sizes)) reply.Nothing)
     unfolding noted
     proved-kept g few =
-        let q : move (s .full) T (size.Prove (e₀ .len)) .search ≡ searchIn (search.provenSizes z (e₀ .len) .sizes) = rw g in
-        let out : move (s .full) T (size.Prove (e₀ .len)) .search .out ≡ z .seek .len = ap (λ (x : size.Search). x .out) q in
+        let q : move (s .label .full) T (size.Prove (e₀ .len)) .search ≡ searchIn (search.provenSizes z (e₀ .len) .sizes) = rw g in
+        let out : move (s .label .full) T (size.Prove (e₀ .len)) .search .out ≡ z .seek .len = ap (λ (x : size.Search). x .out) q in
         record {
           agrees = record {
             marks = refl;
@@ -98,7 +98,7 @@ module _ (t : Settings) (s : Slot) (b₀ : Book) where
           line = h .line;
           whole = h .whole;
           sizing = move-kept t s b₀ h (size.Prove (e₀ .len));
-          limit = λ L w. under-move L (s .full) T (size.Prove (e₀ .len)) (h .limit L (w .1)) (w .0);
+          limit = λ L w. under-move L (s .label .full) T (size.Prove (e₀ .len)) (h .limit L (w .1)) (w .0);
         }
 
     pub by-prove : Work t s e₀ N 7
@@ -113,14 +113,14 @@ module _ (t : Settings) (s : Slot) (b₀ : Book) where
 
     -- a size is proposed
     abbrev Proposes : ℕ → Type 0
-    Proposes n = (z .seek .len ≡ 0) × (search.proposeOf (z .seek .lost) (z .proven) (s .full) ≡ len.Some n)
+    Proposes n = (z .seek .len ≡ 0) × (search.proposeOf (z .seek .lost) (z .proven) (s .label .full) ≡ len.Some n)
 
-    proposes : (n : ℕ) → search.searchSize z (s .full) now ≡ len.Some n → Proposes n
+    proposes : (n : ℕ) → search.searchSize z (s .label .full) now ≡ len.Some n → Proposes n
     unfolding search.searchSize
     proposes n q = go (eqb (z .seek .len) 0) (search.mayTry (z .seek .at) now) refl q
       where
         go : (f g : Bool) → eqb (z .seek .len) 0 ≡ f
-            → cond (f && g) (search.proposeOf (z .seek .lost) (z .proven) (s .full)) len.None ≡ len.Some n → Proposes n
+            → cond (f && g) (search.proposeOf (z .seek .lost) (z .proven) (s .label .full)) len.None ≡ len.Some n → Proposes n
         go true true f q = (eqb-true (z .seek .len) 0 f, q)
         go true false f q = none-some q
         go false g f q = none-some q
@@ -135,7 +135,7 @@ module _ (t : Settings) (s : Slot) (b₀ : Book) where
         record {
           agrees = record {
             marks = refl;
-            search = sym (ap (λ (x : size.Tally). x .search) (send-is z (T .cleared) (T .count) (s .full) n (q .0) (q .1)));
+            search = sym (ap (λ (x : size.Tally). x .search) (send-is z (T .cleared) (T .count) (s .label .full) n (q .0) (q .1)));
             probe = λ o. refl;
             probeAt = λ o. refl;
           };
@@ -144,7 +144,7 @@ module _ (t : Settings) (s : Slot) (b₀ : Book) where
               (out-most n (takenOf (p .ids .«next_id») (e₀ .id))) few;
           whole = h .whole;
           sizing = move-kept t s b₀ h size.Send;
-          limit = λ L w. under-move L (s .full) T size.Send (h .limit L w) tt;
+          limit = λ L w. under-move L (s .label .full) T size.Send (h .limit L w) tt;
         }
 
     by-size : (o : MaybeLen) → ((n : ℕ) → o ≡ len.Some n → Proposes n) → N 8 (searched (live.lenOr refusal.NoSize o) s (e 8))
@@ -157,9 +157,9 @@ module _ (t : Settings) (s : Slot) (b₀ : Book) where
     pub by-search : Work t s e₀ N 8
     unfolding live.seekSizeOf
     by-search ok =
-        cond-cases (λ (x : LenAnswer). N 8 (searched x s (e 8))) (ltb 65535 (s .full)) _ _ (λ f. no 8 refusal.Length)
-        (λ f. cond-cases (λ (x : LenAnswer). N 8 (searched x s (e 8))) (ltb (s .full) 27) _ _ (λ g. no 8 refusal.Length)
-        (λ g. by-size (search.searchSize z (s .full) now) proposes))
+        cond-cases (λ (x : LenAnswer). N 8 (searched x s (e 8))) (ltb 65535 (s .label .full)) _ _ (λ f. no 8 refusal.Length)
+        (λ f. cond-cases (λ (x : LenAnswer). N 8 (searched x s (e 8))) (ltb (s .label .full) 27) _ _ (λ g. no 8 refusal.Length)
+        (λ g. by-size (search.searchSize z (s .label .full) now) proposes))
 
     -- ---- judge
 
@@ -191,11 +191,11 @@ module _ (t : Settings) (s : Slot) (b₀ : Book) where
             ap (λ (n : ℕ). not (eqb (z .seek .len) 0) && search.lostNow (b .sizing .probeAt) n (p .ids .answered) now (e₀ .span)) (sym (h .agrees .probe o))
             ∙ ap lostBy (sym (h .agrees .probeAt o))
 
-    lost-kept : (q : Liveness) → lost ≡ true → laneOf q ≡ laneOf p → searchIn (q .sizes) ≡ move (s .full) T size.Judge .search
+    lost-kept : (q : Liveness) → lost ≡ true → laneOf q ≡ laneOf p → searchIn (q .sizes) ≡ move (s .label .full) T size.Judge .search
         → q .sizes .seek .len ≡ 0 → N 9 (turn s q reply.Lost)
     unfolding noted
     lost-kept q l f g n =
-        let none : move (s .full) T size.Judge .search .out ≡ 0 = sym (ap (λ (x : size.Search). x .out) g) ∙ n in
+        let none : move (s .label .full) T size.Judge .search .out ≡ 0 = sym (ap (λ (x : size.Search). x .out) g) ∙ n in
         rw (loss-is ∙ l) (λ few.
         record {
           agrees = record { marks = refl; search = g; probe = λ y. absurd (omega (arith, none)); probeAt = λ y. absurd (omega (arith, none)) };
@@ -204,7 +204,7 @@ module _ (t : Settings) (s : Slot) (b₀ : Book) where
               (subst (λ (l : Lane). Line t l (b .probes) (outCount z)) (sym f) (h .line));
           whole = h .whole;
           sizing = move-kept t s b₀ h size.Judge;
-          limit = λ L w. under-move L (s .full) T size.Judge (h .limit L (w .1)) (λ y. w .0);
+          limit = λ L w. under-move L (s .label .full) T size.Judge (h .limit L (w .1)) (λ y. w .0);
         })
 
     waits-kept : lost ≡ false → N 9 (turn s p reply.Waits)
@@ -229,5 +229,5 @@ module _ (t : Settings) (s : Slot) (b₀ : Book) where
         let some : 1 ≤ z .seek .len = lost-out (z .seek .at) q in
         let k = known t s b₀ h some in
         lost-kept (withSizes p (search.dropOf z (knownOf 27 (z .proven)) now (t .gap) .sizes)) q refl
-        (judged-is z (T .cleared) (T .count) (s .full) some (k .1 .0) (k .1 .1) now (t .gap)) refl)
+        (judged-is z (T .cleared) (T .count) (s .label .full) some (k .1 .0) (k .1 .1) now (t .gap)) refl)
         waits-kept

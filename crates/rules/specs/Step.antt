@@ -75,16 +75,16 @@ rivalOf i s =
       rtt = timeIn (s .path .rtts .rtt);
       base = timeIn (baseRtt (s .path .rtts .spans));
       index = i;
-      tier = tierOf (s .role);
+      tier = tierOf (s .label .role);
       held = s .used;
       scored = isScored (pathScore (s .path));
       steadied = isScored (pathSteady (s .path));
       timed = isTimed (s .path .rtts .rtt);
       based = isTimed (baseRtt (s .path .rtts .spans));
-      preferred = s .preferred;
-      pinned = s .pinned;
-      fits = s .fits;
-      medium = s .medium;
+      preferred = s .label .preferred;
+      pinned = s .label .pinned;
+      fits = s .label .fits;
+      medium = s .label .medium;
     }
 
 -- the slots from number i on
