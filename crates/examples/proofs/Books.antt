@@ -21,12 +21,14 @@ abbrev bookOf : Sample → Book
 bookOf s = bookAfter (s .settings) (s .events) 0
 
 -- twelve search probes since the start, and what was lost last is cleared
-twelve-counted : bookOf twelve .sizing .tally ≡ record { search = record { proven = len.Some 27; lost = 0; out = 0 }; cleared = true; count = 12 }
+twelve-counted : bookOf twelve .sizing .tally ≡ record
+    { search = record { proven = len.Some 27; lost = 0; out = 0 }; cleared = true; count = 12 }
 unfolding answers noted twelve
 twelve-counted = refl
 
 -- a rest: 100 is proven, and what is lost is cleared
-rest-cleared : bookOf upTo131 .sizing .tally ≡ record { search = record { proven = len.Some 100; lost = 0; out = 0 }; cleared = true; count = 1 }
+rest-cleared : bookOf upTo131 .sizing .tally ≡ record
+    { search = record { proven = len.Some 100; lost = 0; out = 0 }; cleared = true; count = 1 }
 unfolding answers noted upTo131
 rest-cleared = refl
 
@@ -39,7 +41,9 @@ rest-carried : Every (Carries 131) (Lost 132 ∷ Proved 100 ∷ [])
 rest-carried = (omega arith, (omega arith, tt))
 
 -- eight sent, none in time, eight lapsed, none waiting
-eight-summed : bookOf eight .probes .sent ∷ length (bookOf eight .probes .timely) ∷ bookOf eight .probes .lapsed ∷ length (bookOf eight .probes .waiting) ∷ [] ≡ 8 ∷ 0 ∷ 8 ∷ 0 ∷ []
+eight-summed : bookOf eight .probes .sent ∷ length
+    (bookOf eight .probes .timely) ∷ bookOf eight .probes .lapsed ∷ length
+    (bookOf eight .probes .waiting) ∷ [] ≡ 8 ∷ 0 ∷ 8 ∷ 0 ∷ []
 unfolding answers noted eight
 eight-summed = refl
 
@@ -67,7 +71,46 @@ every-holds (s ∷ l) h = (holds s (h .0), every-holds l (h .1))
 
 short : Every Short examples
 unfolding first refused eight ordered defers lastData overdue thawed reopened proposals acknowledged twelve upTo131 judges tiers lowest scored
-short = ((omega arith, refl), ((omega arith, refl), ((omega arith, refl), ((omega arith, refl), ((omega arith, refl), ((omega arith, refl), ((omega arith, refl), ((omega arith, refl), ((omega arith, refl), ((omega arith, refl), ((omega arith, refl), ((omega arith, refl), ((omega arith, refl), ((omega arith, refl), ((omega arith, refl), ((omega arith, refl), ((omega arith, refl), tt)))))))))))))))))
+short = (
+  (omega arith, refl),
+  (
+    (omega arith, refl),
+    (
+      (omega arith, refl),
+      (
+        (omega arith, refl),
+        (
+          (omega arith, refl),
+          (
+            (omega arith, refl),
+            (
+              (omega arith, refl),
+              (
+                (omega arith, refl),
+                (
+                  (omega arith, refl),
+                  (
+                    (omega arith, refl),
+                    (
+                      (omega arith, refl),
+                      (
+                        (omega arith, refl),
+                        (
+                          (omega arith, refl),
+                          ((omega arith, refl), ((omega arith, refl), ((omega arith, refl), ((omega arith, refl), tt)))),
+                        ),
+                      ),
+                    ),
+                  ),
+                ),
+              ),
+            ),
+          ),
+        ),
+      ),
+    ),
+  ),
+)
 
 pub all-hold : Every Holds examples
 all-hold = every-holds examples short

@@ -73,4 +73,40 @@ unfolding answers scored
 right-scored = refl
 
 pub all-right : AllRight examples
-all-right = (right-first, (right-refused, (right-eight, (right-ordered, (right-defers, (right-lastData, (right-overdue, (right-thawed, (right-reopened, (right-proposals, (right-acknowledged, (right-twelve, (right-upTo131, (right-judges, (right-tiers, (right-lowest, (right-scored, tt)))))))))))))))))
+all-right = (
+  right-first,
+  (
+    right-refused,
+    (
+      right-eight,
+      (
+        right-ordered,
+        (
+          right-defers,
+          (
+            right-lastData,
+            (
+              right-overdue,
+              (
+                right-thawed,
+                (
+                  right-reopened,
+                  (
+                    right-proposals,
+                    (
+                      right-acknowledged,
+                      (
+                        right-twelve,
+                        (right-upTo131, (right-judges, (right-tiers, (right-lowest, (right-scored, tt))))),
+                      ),
+                    ),
+                  ),
+                ),
+              ),
+            ),
+          ),
+        ),
+      ),
+    ),
+  ),
+)

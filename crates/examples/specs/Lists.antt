@@ -79,7 +79,8 @@ first =
       given = (0, 0) ∷ (0, 7) ∷ (0, 1) ∷ (9, 0) ∷ (0, 0) ∷ [];
     }
 
--- ---- the table of refusals, each number that the record gives once: 1, 2, 3, 4, 5, 6, 7, 9, 10, 15 and, after a close, 11
+-- ---- the table of refusals, each number that the record gives once: 1, 2, 3, 4, 5, 6, 7, 9, 10, 15 and, after a
+-- close, 11
 unfoldable pub refused : Sample
 refused =
     record {
@@ -100,7 +101,8 @@ refused =
           choose one ∷
           [];
       given =
-          (1, 0) ∷ (2, 0) ∷ (0, 0) ∷ (3, 0) ∷ (4, 0) ∷ (5, 0) ∷ (6, 0) ∷ (7, 0) ∷ (9, 0) ∷ (10, 0) ∷ (15, 0) ∷ (0, 0) ∷ (11, 0) ∷ [];
+          (1, 0) ∷ (2, 0) ∷ (0, 0) ∷ (3, 0) ∷ (4, 0) ∷ (5, 0) ∷ (6, 0) ∷ (7, 0) ∷ (9, 0) ∷ (10, 0) ∷ (15, 0) ∷ (0, 0)
+          ∷ (11, 0) ∷ [];
     }
 
 -- n probes at 0, due at 5
@@ -115,7 +117,8 @@ eight =
       settings = second;
       events =
           opens 0 100 0 ∷ probes 9 ++ (
-          event 2 0 0 5 7 65536 0 0 ∷ poll 5 1 ∷ poll 5 0 ∷ answer 9 10 0 ∷ answer 9 11 0 ∷ answer 9 14 0 ∷ answer 9 14 0 ∷ []);
+          event 2 0 0 5 7 65536 0 0 ∷ poll 5 1 ∷ poll 5 0 ∷ answer 9 10 0 ∷ answer 9 11 0 ∷ answer 9 14 0 ∷ answer 9 14
+          0 ∷ []);
       given =
           (0, 0) ∷ (0, 7) ∷ (0, 8) ∷ (0, 9) ∷ (0, 10) ∷ (0, 11) ∷ (0, 12) ∷ (0, 13) ∷ (0, 14) ∷ (8, 0) ∷
           (5, 0) ∷ (0, 0) ∷ (0, 8) ∷ (9, 0) ∷ (0, 2) ∷ (0, 2) ∷ (9, 0) ∷ [];
@@ -126,7 +129,8 @@ unfoldable pub ordered : Sample
 ordered =
     record {
       settings = second;
-      events = event 16 8 0 0 0 0 0 0 ∷ opens 8 26 128 ∷ closes 8 ∷ opens 0 26 128 ∷ opens 0 27 127 ∷ opens 0 26 128 ∷ [];
+      events = event 16 8 0 0 0 0 0 0 ∷ opens 8 26 128 ∷ closes 8 ∷ opens 0 26 128 ∷ opens 0 27 127 ∷ opens 0 26 128
+          ∷ [];
       given = (15, 0) ∷ (1, 0) ∷ (1, 0) ∷ (4, 0) ∷ (0, 0) ∷ (3, 0) ∷ [];
     }
 
@@ -202,7 +206,8 @@ acknowledged =
 -- a search probe that is lost, in second n: a probe after it is answered, and the judge says 1
 abbrev pub loss : ℕ → List Event
 loss n =
-    seeks (n * 1000000000) ∷ probe (n * 1000000000) 99000000000 0 ∷ answer (n * 1000000000) (2 * n + 1) 0 ∷ judge (n * 1000000000) 0 ∷ []
+    seeks (n * 1000000000) ∷ probe (n * 1000000000) 99000000000 0 ∷ answer (n * 1000000000) (2 * n + 1) 0 ∷ judge
+    (n * 1000000000) 0 ∷ []
 
 abbrev pub losses : ℕ → ℕ → List Event
 losses n zero = []
@@ -218,8 +223,10 @@ twelve =
           (0, 0) ∷ (0, 0) ∷
           (0, 0) ∷ (0, 1) ∷ (0, 1) ∷ (0, 1) ∷ (0, 2) ∷ (0, 3) ∷ (0, 1) ∷ (0, 1) ∷ (0, 4) ∷ (0, 5) ∷ (0, 1) ∷ (0, 1) ∷
           (0, 6) ∷ (0, 7) ∷ (0, 1) ∷ (0, 1) ∷ (0, 8) ∷ (0, 9) ∷ (0, 1) ∷ (0, 1) ∷ (0, 10) ∷ (0, 11) ∷ (0, 1) ∷ (0, 1) ∷
-          (0, 12) ∷ (0, 13) ∷ (0, 1) ∷ (0, 1) ∷ (0, 14) ∷ (0, 15) ∷ (0, 1) ∷ (0, 1) ∷ (0, 16) ∷ (0, 17) ∷ (0, 1) ∷ (0, 1) ∷
-          (0, 18) ∷ (0, 19) ∷ (0, 1) ∷ (0, 1) ∷ (0, 20) ∷ (0, 21) ∷ (0, 1) ∷ (0, 1) ∷ (0, 22) ∷ (0, 23) ∷ (0, 1) ∷ (0, 1) ∷
+          (0, 12) ∷ (0, 13) ∷ (0, 1) ∷ (0, 1) ∷ (0, 14) ∷ (0, 15) ∷ (0, 1) ∷ (0, 1) ∷ (0, 16) ∷ (0, 17) ∷ (0, 1)
+          ∷ (0, 1) ∷
+          (0, 18) ∷ (0, 19) ∷ (0, 1) ∷ (0, 1) ∷ (0, 20) ∷ (0, 21) ∷ (0, 1) ∷ (0, 1) ∷ (0, 22) ∷ (0, 23) ∷ (0, 1)
+          ∷ (0, 1) ∷
           (10, 0) ∷ [];
     }
 
@@ -238,7 +245,8 @@ judges =
     record {
       settings = second;
       events =
-          opens 0 132 0 ∷ prove 100 ∷ seeks 5 ∷ judge 9 0 ∷ probe 5 99 0 ∷ answer 5 1 0 ∷ judge 14 10 ∷ judge 15 10 ∷ judge 15 10 ∷ [];
+          opens 0 132 0 ∷ prove 100 ∷ seeks 5 ∷ judge 9 0 ∷ probe 5 99 0 ∷ answer 5 1 0 ∷ judge 14 10 ∷ judge 15 10
+          ∷ judge 15 10 ∷ [];
       given = (0, 0) ∷ (0, 0) ∷ (0, 0) ∷ (0, 0) ∷ (0, 1) ∷ (0, 1) ∷ (0, 0) ∷ (0, 1) ∷ (0, 0) ∷ [];
     }
 
@@ -276,5 +284,6 @@ scored =
 
 abbrev pub examples : List Sample
 examples =
-    first ∷ refused ∷ eight ∷ ordered ∷ defers ∷ lastData ∷ overdue ∷ thawed ∷ reopened ∷ proposals ∷ acknowledged ∷ twelve ∷ upTo131 ∷
+    first ∷ refused ∷ eight ∷ ordered ∷ defers ∷ lastData ∷ overdue ∷ thawed ∷ reopened ∷ proposals ∷ acknowledged
+    ∷ twelve ∷ upTo131 ∷
     judges ∷ tiers ∷ lowest ∷ scored ∷ []

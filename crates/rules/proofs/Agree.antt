@@ -28,7 +28,8 @@ use Rattle.halving.specs.Moves as size
 use Rattle.halving.specs.Moves.{move}
 use Rattle.halving.proofs.Moves.{Kept, opened-kept, opened-under, out-of, by-move, Under}
 
--- slot and book: they agree; the ring is the waiting line; the search is within its budget, for any bound that full allows; and what a
+-- slot and book: they agree; the ring is the waiting line; the search is within its budget, for any bound that full
+-- allows; and what a
 -- link that carries just the sizes up to L leaves proven and lost
 pub record Inv (t : Settings) (s : Slot) (b : Book) : Type 0 where
   pub agrees : Agrees s b
@@ -38,7 +39,8 @@ pub record Inv (t : Settings) (s : Slot) (b : Book) : Type 0 where
   pub limit : (L : ℕ) → Every (Carries L) (b .sizing .words) → Under L (b .sizing .tally .search)
 
 -- a slot with no path, and one just opened
-pub new-inv : (t : Settings) (s : Slot) (m : Marks) → s .path ≡ newLiveness → marksOf s ≡ m → m .full ≤ 65535 → Inv t s (newBook m)
+pub new-inv : (t : Settings) (s : Slot) (m : Marks) → s .path ≡ newLiveness → marksOf s ≡ m → m .full ≤ 65535
+    → Inv t s (newBook m)
 new-inv t s m e a f =
     record {
       agrees = record {
@@ -47,7 +49,8 @@ new-inv t s m e a f =
         probe = λ o. absurd (omega arith);
         probeAt = λ o. absurd (omega arith);
       };
-      line = subst (λ (p : Liveness). Line t (laneOf p) (newBook m .probes) (outCount (p .sizes))) (sym e) (new-line t m);
+      line = subst (λ (p : Liveness). Line t (laneOf p) (newBook m .probes) (outCount (p .sizes))) (sym e)
+          (new-line t m);
       whole = f;
       sizing = λ k w. opened-kept (m .full) k;
       limit = λ L w. opened-under L;
@@ -91,7 +94,12 @@ aligned t s b h = λ i.
         drawn = b .probes .drawn;
       };
       sizing = record {
-        tally = record { search = h .agrees .search i; cleared = b .sizing .tally .cleared; count = b .sizing .tally .count };
+        tally = record {
+          search = h .agrees .search i;
+          cleared = b .sizing .tally .cleared;
+          count =
+              b .sizing .tally .count;
+        };
         probe = b .sizing .probe;
         probeAt = b .sizing .probeAt;
         words = b .sizing .words;
@@ -162,7 +170,8 @@ module _ (t : Settings) (s : Slot) (b₀ : Book) where
         }
 
     -- the search after a move
-    pub move-kept : (m : size.Move) (k : ℕ) → s .label .full ≤ 27 + span k → Kept (s .label .full) k (move (s .label .full) (b .sizing .tally) m)
+    pub move-kept : (m : size.Move) (k : ℕ) → s .label .full ≤ 27 + span k
+        → Kept (s .label .full) k (move (s .label .full) (b .sizing .tally) m)
     move-kept m k w = by-move (s .label .full) k w (b .sizing .tally) m (h .sizing k w)
 
     -- where a probe is out something is proven, and the probe is no longer than full

@@ -31,21 +31,25 @@ use Rattle.halving.proofs.Moves.{most-of, clearing-limit}
 -- ---- what the book notes of one event
 
 module _ (t : Settings) (b : Book) (e : Event) (v : ℕ) where
-  word-acked : is Answer e ≡ true → v ≡ 3 → noted t b e v .sizing .words ≡ Acked (outSize b) (e .acked) ∷ b .sizing .words
+  word-acked : is Answer e ≡ true → v ≡ 3
+      → noted t b e v .sizing .words ≡ Acked (outSize b) (e .acked) ∷ b .sizing .words
   unfolding noted
   word-acked q f =
-      by-number (λ (x : Event). noted t b x v .sizing .words ≡ Acked (outSize b) (x .acked) ∷ b .sizing .words) Answer e q
+      by-number (λ (x : Event). noted t b x v .sizing .words ≡ Acked (outSize b) (x .acked) ∷ b .sizing .words) Answer
+      e q
       (rw (eq-eqb v 3 f))
 
   word-lost : is Judge e ≡ true → v ≡ 1 → noted t b e v .sizing .words ≡ Lost (outSize b) ∷ b .sizing .words
   unfolding noted
   word-lost q f =
-      by-number (λ (x : Event). noted t b x v .sizing .words ≡ Lost (outSize b) ∷ b .sizing .words) Judge e q (rw (eq-eqb v 1 f))
+      by-number (λ (x : Event). noted t b x v .sizing .words ≡ Lost (outSize b) ∷ b .sizing .words) Judge e q
+      (rw (eq-eqb v 1 f))
 
   poll-waiting : is Poll e ≡ true → noted t b e v .probes .waiting ≡ waitingAt t (b .probes) (e .now) (bit 1 e)
   unfolding noted
   poll-waiting q =
-      by-number (λ (x : Event). noted t b x v .probes .waiting ≡ waitingAt t (b .probes) (x .now) (bit 1 x)) Poll e q refl
+      by-number (λ (x : Event). noted t b x v .probes .waiting ≡ waitingAt t (b .probes) (x .now) (bit 1 x)) Poll e q
+      refl
 
   abbrev moved : size.Move → size.Tally
   moved m = move (b .marks .full) (b .sizing .tally) m
@@ -53,12 +57,14 @@ module _ (t : Settings) (b : Book) (e : Event) (v : ℕ) where
   tally-acked : is Answer e ≡ true → isAck b e ≡ true → noted t b e v .sizing .tally ≡ moved (size.Answer (e .acked))
   unfolding noted
   tally-acked q f =
-      by-number (λ (x : Event). isAck b x ≡ true → noted t b x v .sizing .tally ≡ moved (size.Answer (x .acked))) Answer e q (λ f. rw f) f
+      by-number (λ (x : Event). isAck b x ≡ true → noted t b x v .sizing .tally ≡ moved (size.Answer (x .acked)))
+      Answer e q (λ f. rw f) f
 
   tally-lost : is Judge e ≡ true → isLoss b e ≡ true → noted t b e v .sizing .tally ≡ moved size.Judge
   unfolding noted
   tally-lost q f =
-      by-number (λ (x : Event). isLoss b x ≡ true → noted t b x v .sizing .tally ≡ moved size.Judge) Judge e q (λ f. rw f) f
+      by-number (λ (x : Event). isLoss b x ≡ true → noted t b x v .sizing .tally ≡ moved size.Judge) Judge e q
+      (λ f. rw f) f
 
   -- ---- a clearing, where the link carries just the sizes up to L
 
@@ -73,19 +79,23 @@ module _ (t : Settings) (b : Book) (e : Event) (v : ℕ) where
         fa (head .0) ∙ ap (λ (f : Bool). cond f 3 (cond (waits (e .id) (b .probes .waiting)) 1 2)) q in
         let words : Every (Carries L) (Acked (outSize b) (e .acked) ∷ b .sizing .words) =
         subst (Every (Carries L)) (word-acked (head .0) three) w in
-        clearing-limit L (b .marks .full) (b .sizing .tally) (size.Answer (e .acked)) n (h .limit L (words .1)) (λ y. words .0) c
+        clearing-limit L (b .marks .full) (b .sizing .tally) (size.Answer (e .acked)) n (h .limit L (words .1))
+        (λ y. words .0) c
         (sym (ap (λ (x : size.Tally). x .search .proven) (tally-acked (head .0) q)) ∙ proven)
 
-    cleared-loss : (is Judge e ≡ true → v ≡ judgeSays b e) → isLoss b e ≡ true → clearing (b .sizing .tally .search) size.Judge ≡ true
+    cleared-loss : (is Judge e ≡ true → v ≡ judgeSays b e) → isLoss b e ≡ true
+        → clearing (b .sizing .tally .search) size.Judge ≡ true
         → L ≤ n + 31
     cleared-loss fl q c =
-        let parts = and-true (is Judge e) (not (eqb (outSize b) 0)) (and-true (is Judge e && not (eqb (outSize b) 0)) _ q .0) in
+        let parts = and-true (is Judge e) (not (eqb (outSize b) 0))
+        (and-true (is Judge e && not (eqb (outSize b) 0)) _ q .0) in
         let words : Every (Carries L) (Lost (outSize b) ∷ b .sizing .words) =
         subst (Every (Carries L)) (word-lost (parts .0) (fl (parts .0) ∙ ap (λ (f : Bool). cond f 1 0) q)) w in
         clearing-limit L (b .marks .full) (b .sizing .tally) size.Judge n (h .limit L (words .1)) (λ y. words .0) c
         (sym (ap (λ (x : size.Tally). x .search .proven) (tally-lost (parts .0) q)) ∙ proven)
 
-    pub cleared-rest : (is Answer e ≡ true → v ≡ answerSays b e) → (is Judge e ≡ true → v ≡ judgeSays b e) → clears b e ≡ true → L ≤ n + 31
+    pub cleared-rest : (is Answer e ≡ true → v ≡ answerSays b e) → (is Judge e ≡ true → v ≡ judgeSays b e)
+        → clears b e ≡ true → L ≤ n + 31
     cleared-rest fa fl c =
         on-flag (isAck b e) (λ q. cleared-ack fa q (by-ack q ∙ c))
         (λ q.
@@ -112,9 +122,11 @@ module _ (t : Settings) (before after : ℕ → Slot) (bs : Books) (x : Entry) (
   pub polled-at : Polled t bs x (note t bs x)
   polled-at j a =
       let w : note t bs x j .probes .waiting ≡ waitingAt t (bs j .probes) (x .event .now) (bit 1 (x .event)) =
-      ap (λ (b : Book). b .probes .waiting) (noted-at j (a .0) (a .1)) ∙ poll-waiting t (bs j) (x .event) (x .value) (a .2) in
+      ap (λ (b : Book). b .probes .waiting) (noted-at j (a .0) (a .1))
+      ∙ poll-waiting t (bs j) (x .event) (x .value) (a .2) in
       subst (Every (Stays t (x .event .now) (bit 1 (x .event)))) (sym w)
-      (stays t (laneOf (before j .path)) (bs j .probes) (outCount (before j .path .sizes)) (x .event .now) (bit 1 (x .event)) (g j .line))
+      (stays t (laneOf (before j .path)) (bs j .probes) (outCount (before j .path .sizes)) (x .event .now)
+      (bit 1 (x .event)) (g j .line))
 
   -- for any bound that the full sizes allow
   pub few-at : (k : ℕ) → ((j : ℕ) → note t bs x j .marks .full ≤ 27 + span k) → AtMost (suc k) bs x (note t bs x)

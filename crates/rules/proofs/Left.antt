@@ -70,28 +70,34 @@ module _ (t : Settings) (s : Slot) (e₀ : Event) where
   unfolding sendOf
   by-probe ok =
       cond-cases (λ (x : Sending). N 2 (sent s x)) (ltb 65535 length′) _ _ (λ f q. refl)
-      (λ f. cond-cases (λ (x : Sending). N 2 (sent s x)) (leb 8 (firstFree (p .ring))) _ _ (λ g q. refl) (λ g q. taken q))
+      (λ f. cond-cases (λ (x : Sending). N 2 (sent s x)) (leb 8 (firstFree (p .ring))) _ _ (λ g q. refl)
+      (λ g q. taken q))
 
   by-ring : N 3 (turn s (answerOf p id .path) (answerReply (answerOf p id .answer)))
   unfolding answerOf
   by-ring =
-      cond-cases (λ (x : Answering). N 3 (turn s (x .path) (answerReply (x .answer)))) (ltb (found id (p .ring)) 8) (answeredAt p (found id (p .ring)) id) _ (λ f q. taken q)
-      (λ f. cond-cases (λ (x : Answering). N 3 (turn s (x .path) (answerReply (x .answer)))) (ltb (found id (p .late)) 4) (lateAt p (found id (p .late))) _ (λ g q. taken q) (λ g q. refl))
+      cond-cases (λ (x : Answering). N 3 (turn s (x .path) (answerReply (x .answer)))) (ltb (found id (p .ring)) 8)
+      (answeredAt p (found id (p .ring)) id) _ (λ f q. taken q)
+      (λ f. cond-cases (λ (x : Answering). N 3 (turn s (x .path) (answerReply (x .answer))))
+      (ltb (found id (p .late)) 4) (lateAt p (found id (p .late))) _ (λ g q. taken q) (λ g q. refl))
 
-  by-settled : (o : MaybeLen) (d : Settled) → N 3 (answered (live.settledBy p o d .answer) (live.settledBy p o d .path) s (e 3))
+  by-settled : (o : MaybeLen) (d : Settled)
+      → N 3 (answered (live.settledBy p o d .answer) (live.settledBy p o d .path) s (e 3))
   by-settled len.None d = by-ring
   by-settled (len.Some n) d = λ q. taken q
 
   by-answer : Work t s e₀ N 3
   unfolding live.seekAnswerOf
   by-answer ok =
-      cond-cases (λ (x : Settling). N 3 (answered (x .answer) (x .path) s (e 3))) (leb (2 ^ 62) (t .gap)) _ _ (λ f. by-ring)
+      cond-cases (λ (x : Settling). N 3 (answered (x .answer) (x .path) s (e 3))) (leb (2 ^ 62) (t .gap)) _ _
+      (λ f. by-ring)
       (λ f. by-settled (search.settledSearch (p .sizes) id (t .gap) .len) (search.settledSearch (p .sizes) id (t .gap)))
 
   by-size : (o : MaybeLen) → N 8 (searched (live.lenOr refusal.NoSize o) s (e 8))
   unfolding live.seekSendOf
   by-size len.None = λ q. refl
-  by-size (len.Some n) = cond-cases (λ (x : Sending). N 8 (sent s x)) (ltb 65535 n) (noId p refusal.Length) _ (λ f q. refl) (λ f q. taken q)
+  by-size (len.Some n) = cond-cases (λ (x : Sending). N 8 (sent s x)) (ltb 65535 n) (noId p refusal.Length) _
+      (λ f q. refl) (λ f q. taken q)
 
   by-search : Work t s e₀ N 8
   unfolding live.seekSizeOf
@@ -113,8 +119,40 @@ module _ (t : Settings) (s : Slot) (e₀ : Event) where
 
   pub slot-left : (k : ℕ) → N k (onSlot t s (e k))
   slot-left =
-      slot-kept t s e₀ N (λ k why q. refl)
-      (λ ok q. refl, (λ ok q. taken q, (λ ok q. taken q, (λ ok q. taken q, (λ ok q. taken q, (λ ok q. taken q, (by-judge, (by-search, (λ ok q. taken q, (λ ok q. taken q, (λ ok q. taken q, (λ ok q. taken q, (by-answer, (by-probe, (λ ok q. taken q, tt)))))))))))))))
+      slot-kept t s e₀ N (λ k why q. refl) (
+        λ ok q. refl,
+        (
+          λ ok q. taken q,
+          (
+            λ ok q. taken q,
+            (
+              λ ok q. taken q,
+              (
+                λ ok q. taken q,
+                (
+                  λ ok q. taken q,
+                  (
+                    by-judge,
+                    (
+                      by-search,
+                      (
+                        λ ok q. taken q,
+                        (
+                          λ ok q. taken q,
+                          (
+                            λ ok q. taken q,
+                            (λ ok q. taken q, (by-answer, (by-probe, (λ ok q. taken q, tt)))),
+                          ),
+                        ),
+                      ),
+                    ),
+                  ),
+                ),
+              ),
+            ),
+          ),
+        ),
+      )
 
 pub refused-left : (r : Record) (e : Event) → eqb (numberOf (step r e .reply)) 0 ≡ false → step r e .next ≡ r
 unfolding step choiceOf
@@ -124,15 +162,18 @@ refused-left r e =
     (λ c q.
     let z : onSlot (r .settings) (slotAt r (e .slot)) e .slot ≡ slotAt r (e .slot) =
     slot-left (r .settings) (slotAt r (e .slot)) e (e .kind) q in
-    ap (λ (l : List Slot). record { settings = r .settings; slots = l }) (ap (set (r .slots) (e .slot)) z ∙ set-getD (r .slots) (e .slot) emptySlot))
+    ap (λ (l : List Slot). record { settings = r .settings; slots = l })
+    (ap (set (r .slots) (e .slot)) z ∙ set-getD (r .slots) (e .slot) emptySlot))
 
 -- an accepted event is clear: no condition of the refusals' list holds
 passes-clear : (l : List (Refusal × Bool)) → Passes l → every (λ (x : Refusal × Bool). not (x .1)) l ≡ true
 passes-clear [] ok = refl
 passes-clear (x ∷ l) ok = rw (ok .0) (passes-clear l (ok .1))
 
-pub accepted-clear : (t : Settings) (s : Slot) (e : Event) → numberOf (onSlot t s e .reply) ≡ 0 → isClear (s .used) e ≡ true
+pub accepted-clear : (t : Settings) (s : Slot) (e : Event) → numberOf (onSlot t s e .reply) ≡ 0
+    → isClear (s .used) e ≡ true
 unfolding onSlot isClear
 accepted-clear t s e =
     refused-or (λ (u : Turn). numberOf (u .reply) ≡ 0 → isClear (s .used) e ≡ true) (refusals (s .used) e) s _
-    (λ why n. absurd (eqb-false (refusalNumber why) 0 (refused-number why) n)) (λ ok n. passes-clear (refusals (s .used) e) ok)
+    (λ why n. absurd (eqb-false (refusalNumber why) 0 (refused-number why) n))
+    (λ ok n. passes-clear (refusals (s .used) e) ok)

@@ -72,7 +72,8 @@ module _ (now : ℕ) (overdue : Bool) (cap : ℕ) where
   unfolding expireOf
   expire-etx p h =
       cond-cases (λ (x : Expiring). E (x .path)) (isEndless cap) _ _ (λ f. h)
-      (λ f. cond-cases (λ (x : Expiring). E (x .path)) (leb 8 (scanOf (isPassed now overdue) (deferOf (p .traffic .«data_at») cap now overdue) (p .ring) .slot)) _ _
+      (λ f. cond-cases (λ (x : Expiring). E (x .path))
+      (leb 8 (scanOf (isPassed now overdue) (deferOf (p .traffic .«data_at») cap now overdue) (p .ring) .slot)) _ _
       (λ g. h) (λ g. h))
 
   lapsed-etx : (x : Expired) (p : Liveness) (rest : Polling) → E p → E (rest .path) → E (lapsed x p rest .path)
@@ -84,7 +85,8 @@ module _ (now : ℕ) (overdue : Bool) (cap : ℕ) where
   poll-etx : (n : ℕ) (p : Liveness) → E p → E (pollOf n p now overdue cap .path)
   poll-etx zero p h = h
   poll-etx (suc n) p h =
-      lapsed-etx (expireOf p now overdue cap .answer) _ _ (expire-etx p h) (poll-etx n (expireOf p now overdue cap .path) (expire-etx p h))
+      lapsed-etx (expireOf p now overdue cap .answer) _ _ (expire-etx p h)
+      (poll-etx n (expireOf p now overdue cap .path) (expire-etx p h))
 
 module _ (t : Settings) (s : Slot) (e₀ : Event) (h : E (s .path)) where
   abbrev p : Liveness
@@ -123,10 +125,12 @@ module _ (t : Settings) (s : Slot) (e₀ : Event) (h : E (s .path)) where
   unfolding live.seekAnswerOf
   named-etx =
       cond-cases (λ (x : Settling). E (x .path)) (isEndless (t .gap)) _ _ (λ f. h)
-      (λ f. settled-etx (search.settledSearch (p .sizes) (e₀ .id) (t .gap) .len) (search.settledSearch (p .sizes) (e₀ .id) (t .gap)))
+      (λ f. settled-etx (search.settledSearch (p .sizes) (e₀ .id) (t .gap) .len)
+      (search.settledSearch (p .sizes) (e₀ .id) (t .gap)))
 
   by-answer : Work t s e₀ N 3
-  by-answer ok = answered-etx (live.seekAnswerOf p (e₀ .id) (t .gap) .answer) (live.seekAnswerOf p (e₀ .id) (t .gap) .path) named-etx
+  by-answer ok = answered-etx (live.seekAnswerOf p (e₀ .id) (t .gap) .answer)
+      (live.seekAnswerOf p (e₀ .id) (t .gap) .path) named-etx
 
   by-poll : Work t s e₀ N 4
   by-poll ok = poll-etx (e₀ .now) _ (t .cap) 9 p h
@@ -182,7 +186,13 @@ module _ (t : Settings) (s : Slot) (e₀ : Event) (h : E (s .path)) where
                       λ ok. searched-etx (live.seekSizeOf p (s .label .full) (e₀ .now)),
                       (
                         by-prove,
-                        (λ ok. fold-within _ _, (by-sample, (by-poll, (by-answer, (by-probe, (λ ok. one-within, tt)))))),
+                        (
+                          λ ok. fold-within _ _,
+                          (
+                            by-sample,
+                            (by-poll, (by-answer, (by-probe, (λ ok. one-within, tt)))),
+                          ),
+                        ),
                       ),
                     ),
                   ),
@@ -227,8 +237,11 @@ real etx (time.Some rtt) h x e = ap isNan (sym (same e)) ∙ score-real etx rtt 
     same : {a b : Float} → score.Some a ≡ score.Some b → a ≡ b
     same q = cc
 
-pub score-after : (t : Settings) (es : List Event) (j : ℕ) (x : Float) → pathScore (slotAfter t es j .path) ≡ score.Some x → isNan x ≡ false
+pub score-after : (t : Settings) (es : List Event) (j : ℕ) (x : Float)
+    → pathScore (slotAfter t es j .path) ≡ score.Some x → isNan x ≡ false
 score-after t es j = real (slotAfter t es j .path .etx) (minRtt (slotAfter t es j .path .rtts .rtts)) (etx-after t es j)
 
-pub steady-after : (t : Settings) (es : List Event) (j : ℕ) (x : Float) → pathSteady (slotAfter t es j .path) ≡ score.Some x → isNan x ≡ false
-steady-after t es j = real (slotAfter t es j .path .etx) (baseRtt (slotAfter t es j .path .rtts .spans)) (etx-after t es j)
+pub steady-after : (t : Settings) (es : List Event) (j : ℕ) (x : Float)
+    → pathSteady (slotAfter t es j .path) ≡ score.Some x → isNan x ≡ false
+steady-after t es j = real (slotAfter t es j .path .etx) (baseRtt (slotAfter t es j .path .rtts .spans))
+    (etx-after t es j)

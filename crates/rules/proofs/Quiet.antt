@@ -80,9 +80,12 @@ module _ (t : Settings) (s : Slot) (b₀ : Book) where
     pub by-sample : Work t s e₀ N 5
     unfolding noted times.sampleOf
     by-sample ok =
-        cond-cases (λ (x : Doing). N 5 (turn s (x .path) reply.Nothing)) (leb (2 ^ 62) (e₀ .span)) _ _ (λ f few. same t s b₀ h p refl refl)
-        (λ f. cond-cases (λ (x : Doing). N 5 (turn s (x .path) reply.Nothing)) (leb (2 ^ 62) (t .window)) _ _ (λ f few. same t s b₀ h p refl refl)
-        (λ f. cond-cases (λ (x : Doing). N 5 (turn s (x .path) reply.Nothing)) (leb (2 ^ 62) (t .horizon)) _ _ (λ f few. same t s b₀ h p refl refl)
+        cond-cases (λ (x : Doing). N 5 (turn s (x .path) reply.Nothing)) (leb (2 ^ 62) (e₀ .span)) _ _
+        (λ f few. same t s b₀ h p refl refl)
+        (λ f. cond-cases (λ (x : Doing). N 5 (turn s (x .path) reply.Nothing)) (leb (2 ^ 62) (t .window)) _ _
+        (λ f few. same t s b₀ h p refl refl)
+        (λ f. cond-cases (λ (x : Doing). N 5 (turn s (x .path) reply.Nothing)) (leb (2 ^ 62) (t .horizon)) _ _
+        (λ f few. same t s b₀ h p refl refl)
         (λ f few. same t s b₀ h _ refl refl)))
 
     pub by-fold : Work t s e₀ N 6
@@ -118,7 +121,8 @@ module _ (t : Settings) (s : Slot) (b₀ : Book) where
     unfolding times.heardOf
     by-data ok =
         cond-cases (λ (x : Doing). N 10 (turn s (times.carriedOf (x .path) now) reply.Nothing)) (ltb 65535 size)
-        (times.refusedDoing p refusal.Length) (times.doneWith (withTraffic p (times.heardTraffic (p .traffic) size now)))
+        (times.refusedDoing p refusal.Length)
+        (times.doneWith (withTraffic p (times.heardTraffic (p .traffic) size now)))
         (λ f. data-kept (p .traffic)) (λ f. data-kept (times.heardTraffic (p .traffic) size now))
 
     -- ---- sweep
@@ -154,7 +158,8 @@ module _ (t : Settings) (s : Slot) (b₀ : Book) where
 
     -- whatever becomes of `since`
     sent-kept : (since : MaybeId) → leb 8 (firstFree (p .ring)) ≡ false
-        → N 2 (sent s (sentAt p (firstFree (p .ring)) (idsWith since) (takenOf (p .ids .«next_id») (e₀ .id)) now (e₀ .span) size))
+        → N 2 (sent s (sentAt p (firstFree (p .ring)) (idsWith since) (takenOf (p .ids .«next_id») (e₀ .id)) now
+        (e₀ .span) size))
     unfolding noted
     sent-kept since f few =
         record {
@@ -171,7 +176,8 @@ module _ (t : Settings) (s : Slot) (b₀ : Book) where
         cond-cases (λ (x : Sending). N 2 (sent s x)) (ltb 65535 size) _ _ (λ f. no 2 refusal.Length)
         (λ f. cond-cases (λ (x : Sending). N 2 (sent s x)) (leb 8 (firstFree (p .ring))) _ _ (λ g. no 2 refusal.Full)
         (λ g.
-        cond-cases (λ (m : Ids). N 2 (sent s (sentAt p (firstFree (p .ring)) m (takenOf (m .«next_id») (e₀ .id)) now (e₀ .span) size)))
+        cond-cases (λ (m : Ids). N 2
+        (sent s (sentAt p (firstFree (p .ring)) m (takenOf (m .«next_id») (e₀ .id)) now (e₀ .span) size)))
         (allCount (p .ids .since) (p .ring)) _ _
         (λ k. sent-kept mid.None g)
         (λ k. sent-kept (p .ids .since) g)))

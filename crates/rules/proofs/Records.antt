@@ -1,4 +1,5 @@
--- On every record that a list of events makes: its rings are closed up, and no identifier stands twice in one. Two slots can be put in
+-- On every record that a list of events makes: its rings are closed up, and no identifier stands twice in one. Two
+-- slots can be put in
 -- either order.
 -- Assumes nothing.
 use Prim.Native.Nat.{ℕ, _+_, _-_, _≤_}
@@ -39,15 +40,19 @@ module _ (t : Settings) (es : List Event) (small : allowed t ≡ true) (few : Fe
   -- "the ring closes up in its order"
   pub ring-closed : packed 8 ringAfter ≡ ringAfter
   ring-closed =
-      ap (λ (w : List Sent). w ++ replicate (8 - length w) noSent) kept ∙ sym (good-after t small es few .slots j .line .ring .full)
+      ap (λ (w : List Sent). w ++ replicate (8 - length w) noSent) kept
+      ∙ sym (good-after t small es few .slots j .line .ring .full)
 
   -- no two waiting probes have one identifier
   pub ring-distinct : (id : ℕ) → occ id (idsOf ringAfter) ≤ 1
   ring-distinct id =
       let same : idsOf ringAfter ≡ map idOf (bookAfter t es j .probes .waiting) =
-      ap (map (λ (s : Sent). s .«probe_id»)) kept ∙ map-map (λ (s : Sent). s .«probe_id») probeOf (bookAfter t es j .probes .waiting) in
+      ap (map (λ (s : Sent). s .«probe_id»)) kept
+      ∙ map-map (λ (s : Sent). s .«probe_id») probeOf (bookAfter t es j .probes .waiting) in
       omega (arith, ap (occ id) same, good-after t small es few .slots j .line .one id)
 
 -- two slots that differ can be put in either order
-pub puts-commute : (r : Record) (i j : ℕ) (u v : Turn) → (i ≡ j → ⊥) → put (put r i u .next) j v .next ≡ put (put r j v .next) i u .next
-puts-commute r i j u v h = ap (λ (l : List Slot). record { settings = r .settings; slots = l }) (set-comm (r .slots) i j (u .slot) (v .slot) h)
+pub puts-commute : (r : Record) (i j : ℕ) (u v : Turn) → (i ≡ j → ⊥)
+    → put (put r i u .next) j v .next ≡ put (put r j v .next) i u .next
+puts-commute r i j u v h = ap (λ (l : List Slot). record { settings = r .settings; slots = l })
+    (set-comm (r .slots) i j (u .slot) (v .slot) h)

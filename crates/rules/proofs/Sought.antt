@@ -76,18 +76,27 @@ module _ (t : Settings) (s : Slot) (b₀ : Book) where
     unfolding noted
     by-fresh ok few =
         record {
-          agrees = record { marks = refl; search = refl; probe = λ o. absurd (omega arith); probeAt = λ o. absurd (omega arith) };
+          agrees = record {
+            marks = refl;
+            search = refl;
+            probe = λ o. absurd (omega arith);
+            probeAt =
+                λ o. absurd (omega arith);
+          };
           line = line-less t (laneOf p) (b .probes) (outCount z) (λ x. 0) (λ x. omega arith) (h .line);
           whole = h .whole;
           sizing = move-kept t s b₀ h size.Fresh;
           limit = λ L w. under-move L (s .label .full) T size.Fresh (h .limit L w) tt;
         }
 
-    proved-kept : ltb (e₀ .len) 27 ≡ false → N 7 (turn s (withSizes p (search.provenSizes z (e₀ .len) .sizes)) reply.Nothing)
+    proved-kept : ltb (e₀ .len) 27 ≡ false
+        → N 7 (turn s (withSizes p (search.provenSizes z (e₀ .len) .sizes)) reply.Nothing)
     unfolding noted
     proved-kept g few =
-        let q : move (s .label .full) T (size.Prove (e₀ .len)) .search ≡ searchIn (search.provenSizes z (e₀ .len) .sizes) = rw g in
-        let out : move (s .label .full) T (size.Prove (e₀ .len)) .search .out ≡ z .seek .len = ap (λ (x : size.Search). x .out) q in
+        let q : move (s .label .full) T (size.Prove (e₀ .len)) .search ≡ searchIn
+        (search.provenSizes z (e₀ .len) .sizes) = rw g in
+        let out : move (s .label .full) T (size.Prove (e₀ .len)) .search .out ≡ z .seek .len =
+        ap (λ (x : size.Search). x .out) q in
         record {
           agrees = record {
             marks = refl;
@@ -107,7 +116,8 @@ module _ (t : Settings) (s : Slot) (b₀ : Book) where
         let r = or-false (ltb 65535 (e₀ .len) || false) (ltb (e₀ .len) 27) (ok .1 .1 .1 .1 .1 .0) in
         cond-cases (λ (x : Proving). N 7 (turn s (x .path) reply.Nothing)) (ltb 65535 (e₀ .len)) _ _
         (λ f. never f (or-false (ltb 65535 (e₀ .len)) false (r .0) .0))
-        (λ f. cond-cases (λ (x : Proving). N 7 (turn s (x .path) reply.Nothing)) (ltb (e₀ .len) 27) _ _ (λ g. never g (r .1)) proved-kept)
+        (λ f. cond-cases (λ (x : Proving). N 7 (turn s (x .path) reply.Nothing)) (ltb (e₀ .len) 27) _ _
+        (λ g. never g (r .1)) proved-kept)
 
     -- ---- search
 
@@ -120,34 +130,40 @@ module _ (t : Settings) (s : Slot) (b₀ : Book) where
     proposes n q = go (eqb (z .seek .len) 0) (search.mayTry (z .seek .at) now) refl q
       where
         go : (f g : Bool) → eqb (z .seek .len) 0 ≡ f
-            → cond (f && g) (search.proposeOf (z .seek .lost) (z .proven) (s .label .full)) len.None ≡ len.Some n → Proposes n
+            → cond (f && g) (search.proposeOf (z .seek .lost) (z .proven) (s .label .full)) len.None ≡ len.Some n
+            → Proposes n
         go true true f q = (eqb-true (z .seek .len) 0 f, q)
         go true false f q = none-some q
         go false g f q = none-some q
 
     out-most : (n v x : ℕ) → cond (eqb n 0) 0 (occ x (v ∷ [])) ≤ occ x (v ∷ [])
-    out-most n v x = cond-cases (λ (m : ℕ). m ≤ occ x (v ∷ [])) (eqb n 0) 0 (occ x (v ∷ [])) (λ f. omega arith) (λ f. omega arith)
+    out-most n v x = cond-cases (λ (m : ℕ). m ≤ occ x (v ∷ [])) (eqb n 0) 0 (occ x (v ∷ [])) (λ f. omega arith)
+        (λ f. omega arith)
 
-    searched-kept : (n : ℕ) → Proposes n → N 8 (sent s (live.seekSentAt (takeIdOf p (e₀ .id) .path) now n (takeIdOf p (e₀ .id) .id)))
+    searched-kept : (n : ℕ) → Proposes n
+        → N 8 (sent s (live.seekSentAt (takeIdOf p (e₀ .id) .path) now n (takeIdOf p (e₀ .id) .id)))
     unfolding noted search.sentSearch
     searched-kept n q few =
         let v : ℕ = takenOf (p .ids .«next_id») (e₀ .id) in
         record {
           agrees = record {
             marks = refl;
-            search = sym (ap (λ (x : size.Tally). x .search) (send-is z (T .cleared) (T .count) (s .label .full) n (q .0) (q .1)));
+            search = sym (ap (λ (x : size.Tally). x .search)
+                (send-is z (T .cleared) (T .count) (s .label .full) n (q .0) (q .1)));
             probe = λ o. refl;
             probeAt = λ o. refl;
           };
           line =
-              line-search t (laneOf p) (b .probes) (outCount z) (h .line) (e₀ .id) (λ x. cond (eqb n 0) 0 (occ x (v ∷ [])))
+              line-search t (laneOf p) (b .probes) (outCount z) (h .line) (e₀ .id)
+              (λ x. cond (eqb n 0) 0 (occ x (v ∷ [])))
               (out-most n (takenOf (p .ids .«next_id») (e₀ .id))) few;
           whole = h .whole;
           sizing = move-kept t s b₀ h size.Send;
           limit = λ L w. under-move L (s .label .full) T size.Send (h .limit L w) tt;
         }
 
-    by-size : (o : MaybeLen) → ((n : ℕ) → o ≡ len.Some n → Proposes n) → N 8 (searched (live.lenOr refusal.NoSize o) s (e 8))
+    by-size : (o : MaybeLen) → ((n : ℕ) → o ≡ len.Some n → Proposes n)
+        → N 8 (searched (live.lenOr refusal.NoSize o) s (e 8))
     unfolding live.seekSendOf
     by-size len.None q = no 8 refusal.NoSize
     by-size (len.Some n) q =
@@ -157,8 +173,10 @@ module _ (t : Settings) (s : Slot) (b₀ : Book) where
     pub by-search : Work t s e₀ N 8
     unfolding live.seekSizeOf
     by-search ok =
-        cond-cases (λ (x : LenAnswer). N 8 (searched x s (e 8))) (ltb 65535 (s .label .full)) _ _ (λ f. no 8 refusal.Length)
-        (λ f. cond-cases (λ (x : LenAnswer). N 8 (searched x s (e 8))) (ltb (s .label .full) 27) _ _ (λ g. no 8 refusal.Length)
+        cond-cases (λ (x : LenAnswer). N 8 (searched x s (e 8))) (ltb 65535 (s .label .full)) _ _
+        (λ f. no 8 refusal.Length)
+        (λ f. cond-cases (λ (x : LenAnswer). N 8 (searched x s (e 8))) (ltb (s .label .full) 27) _ _
+        (λ g. no 8 refusal.Length)
         (λ g. by-size (search.searchSize z (s .label .full) now) proposes))
 
     -- ---- judge
@@ -188,17 +206,25 @@ module _ (t : Settings) (s : Slot) (b₀ : Book) where
         some-out : eqb (z .seek .len) 0 ≡ false → isLoss b (e 9) ≡ lost
         some-out f =
             let o : 1 ≤ z .seek .len = not-zero (z .seek .len) (rw f) in
-            ap (λ (n : ℕ). not (eqb (z .seek .len) 0) && search.lostNow (b .sizing .probeAt) n (p .ids .answered) now (e₀ .span)) (sym (h .agrees .probe o))
+            ap (λ (n : ℕ). not (eqb (z .seek .len) 0)
+            && search.lostNow (b .sizing .probeAt) n (p .ids .answered) now (e₀ .span)) (sym (h .agrees .probe o))
             ∙ ap lostBy (sym (h .agrees .probeAt o))
 
-    lost-kept : (q : Liveness) → lost ≡ true → laneOf q ≡ laneOf p → searchIn (q .sizes) ≡ move (s .label .full) T size.Judge .search
+    lost-kept : (q : Liveness) → lost ≡ true → laneOf q ≡ laneOf p
+        → searchIn (q .sizes) ≡ move (s .label .full) T size.Judge .search
         → q .sizes .seek .len ≡ 0 → N 9 (turn s q reply.Lost)
     unfolding noted
     lost-kept q l f g n =
         let none : move (s .label .full) T size.Judge .search .out ≡ 0 = sym (ap (λ (x : size.Search). x .out) g) ∙ n in
         rw (loss-is ∙ l) (λ few.
         record {
-          agrees = record { marks = refl; search = g; probe = λ y. absurd (omega (arith, none)); probeAt = λ y. absurd (omega (arith, none)) };
+          agrees = record {
+            marks = refl;
+            search = g;
+            probe = λ y. absurd (omega (arith, none));
+            probeAt =
+                λ y. absurd (omega (arith, none));
+          };
           line =
               line-less t (laneOf q) (b .probes) (outCount z) (outCount (q .sizes)) (none-count (q .sizes) z n)
               (subst (λ (l : Lane). Line t l (b .probes) (outCount z)) (sym f) (h .line));
@@ -213,7 +239,8 @@ module _ (t : Settings) (s : Slot) (b₀ : Book) where
 
     -- the cases of a judge: refused, lost, or it waits
     module _ (Q : Turn → Type 0) (no : Q (turn s p (reply.Refused refusal.Duration)))
-        (yes : lost ≡ true → Q (turn s (withSizes p (search.dropOf z (knownOf 27 (z .proven)) now (t .gap) .sizes)) reply.Lost))
+        (yes : lost ≡ true → Q (turn s
+        (withSizes p (search.dropOf z (knownOf 27 (z .proven)) now (t .gap) .sizes)) reply.Lost))
         (wait : lost ≡ false → Q (turn s p reply.Waits)) where
       pub judge-cases : Q (judged s (live.seekJudgeOf p now (e₀ .span) (t .gap)))
       unfolding live.seekJudgeOf search.judgedSearch

@@ -48,10 +48,12 @@ getD-past (s ∷ l) zero h = absurd (omega arith)
 getD-past (s ∷ l) (suc k) h = getD-past l k (omega arith)
 
 -- a slot above 7 is refused
-beyond : (t : Settings) (s : Slot) (e : Event) → ltb 7 (e .slot) ≡ true → (why : Refusal) × (onSlot t s e ≡ turn s (s .path) (reply.Refused why))
+beyond : (t : Settings) (s : Slot) (e : Event) → ltb 7 (e .slot) ≡ true → (why : Refusal)
+    × (onSlot t s e ≡ turn s (s .path) (reply.Refused why))
 unfolding onSlot
 beyond t s e q =
-    cond-cases (λ (u : Turn). (why : Refusal) × (u ≡ turn s (s .path) (reply.Refused why))) (ltb (e .kind) 1 || ltb 15 (e .kind)) _ _
+    cond-cases (λ (u : Turn). (why : Refusal) × (u ≡ turn s (s .path) (reply.Refused why)))
+    (ltb (e .kind) 1 || ltb 15 (e .kind)) _ _
     (λ f. (refusal.Kind, refl))
     (λ f. cond-cases (λ (u : Turn). (why : Refusal) × (u ≡ turn s (s .path) (reply.Refused why))) (ltb 7 (e .slot)) _ _
     (λ g. (refusal.Slot, refl))
@@ -123,19 +125,24 @@ module _ (t : Settings) (small : allowed t ≡ true) (r : Record) (bs : Books) (
 
   note-own : note t bs (entry e o) i ≡ after t (bs i) e u
   note-own =
-      ap (λ (f : Bool). cond f (noted t (bs i) e (valueOf (u .reply))) (bs i)) (and-one (eqb (numberOf (u .reply)) 0) (eqb i i) (eq-eqb i i refl))
+      ap (λ (f : Bool). cond f (noted t (bs i) e (valueOf (u .reply))) (bs i))
+      (and-one (eqb (numberOf (u .reply)) 0) (eqb i i) (eq-eqb i i refl))
 
   note-other : (j : ℕ) → eqb i j ≡ false → note t bs (entry e o) j ≡ bs j
   note-other j q =
-      ap (λ (f : Bool). cond f (noted t (bs j) e (valueOf (u .reply))) (bs j)) (and-none (eqb (numberOf (u .reply)) 0) (eqb i j) q)
+      ap (λ (f : Bool). cond f (noted t (bs j) e (valueOf (u .reply))) (bs j))
+      (and-none (eqb (numberOf (u .reply)) 0) (eqb i j) q)
 
   -- the slot of the event, one of the eight
-  own-held : i < 8 → note t bs (entry e o) i .probes .drawn < 2 ^ 32 → Inv t (slotAt (o .next) i) (note t bs (entry e o) i)
+  own-held : i < 8 → note t bs (entry e o) i .probes .drawn < 2 ^ 32
+      → Inv t (slotAt (o .next) i) (note t bs (entry e o) i)
   own-held h few =
       let q : slotAt (o .next) i ≡ u .slot = getD-set-same (r .slots) i (u .slot) emptySlot (omega (arith, g .eight)) in
-      let k : Next (Inv t) t (bs i) e u = with-t (Next (Inv t) t (bs i) e) (kept t small (slotAt r i) (bs i) (g .slots i) e) in
+      let k : Next (Inv t) t (bs i) e u =
+      with-t (Next (Inv t) t (bs i) e) (kept t small (slotAt r i) (bs i) (g .slots i) e) in
       subst (Inv t (slotAt (o .next) i)) (sym note-own)
-      (subst (λ (x : Slot). Inv t x (after t (bs i) e u)) (sym q) (k (subst (λ (b : Book). b .probes .drawn < 2 ^ 32) note-own few)))
+      (subst (λ (x : Slot). Inv t x (after t (bs i) e u)) (sym q)
+      (k (subst (λ (b : Book). b .probes .drawn < 2 ^ 32) note-own few)))
 
   -- or beyond them: refused
   own-beyond : 8 ≤ i → Inv t (slotAt (o .next) i) (note t bs (entry e o) i)
@@ -148,13 +155,16 @@ module _ (t : Settings) (small : allowed t ≡ true) (r : Record) (bs : Books) (
       with-t (λ (x : Turn). after t (bs i) e x ≡ bs i)
       (subst (λ (x : Turn). after t (bs i) e x ≡ bs i) (sym (w .1))
       (ap (λ (f : Bool). cond f (noted t (bs i) e 0) (bs i)) (refused-number (w .0)))) in
-      subst (Inv t (slotAt (o .next) i)) (sym (note-own ∙ n)) (subst (λ (x : Slot). Inv t x (bs i)) (sym q) (g .slots i))
+      subst (Inv t (slotAt (o .next) i)) (sym (note-own ∙ n))
+      (subst (λ (x : Slot). Inv t x (bs i)) (sym q) (g .slots i))
 
   -- any other slot
   other : (j : ℕ) → eqb i j ≡ false → Inv t (slotAt (o .next) j) (note t bs (entry e o) j)
   other j q =
-      let k : slotAt (o .next) j ≡ slotAt r j = getD-set-other (r .slots) i j (u .slot) emptySlot (λ z. eqb-false i j q (sym z)) in
-      subst (Inv t (slotAt (o .next) j)) (sym (note-other j q)) (subst (λ (x : Slot). Inv t x (bs j)) (sym k) (g .slots j))
+      let k : slotAt (o .next) j ≡ slotAt r j =
+      getD-set-other (r .slots) i j (u .slot) emptySlot (λ z. eqb-false i j q (sym z)) in
+      subst (Inv t (slotAt (o .next) j)) (sym (note-other j q))
+      (subst (λ (x : Slot). Inv t x (bs j)) (sym k) (g .slots j))
 
   slot-did : is Choose e ≡ false → Did t r bs e o
   slot-did c =
@@ -186,9 +196,11 @@ module _ (t : Settings) (small : allowed t ≡ true) (r : Record) (bs : Books) (
 module _ (t : Settings) (small : allowed t ≡ true) where
   -- a clause that holds at each event
   along : (P : Clause)
-      → ((r : Record) (bs : Books) (g : Good t r bs) (e : Event) → Good t (step r e .next) (note t bs (entry e (step r e)))
+      → ((r : Record) (bs : Books) (g : Good t r bs) (e : Event)
+      → Good t (step r e .next) (note t bs (entry e (step r e)))
       → P bs (entry e (step r e)) (note t bs (entry e (step r e))))
-      → (es : List Event) (r : Record) (bs : Books) → Good t r bs → Each t Few bs (trace r es) → Each t P bs (trace r es)
+      → (es : List Event) (r : Record) (bs : Books) → Good t r bs → Each t Few bs (trace r es)
+      → Each t P bs (trace r es)
   along P f [] r bs g few = tt
   along P f (e ∷ es) r bs g few =
       let n = did t small r bs g e .next (few .0) in
@@ -208,14 +220,17 @@ module _ (t : Settings) (small : allowed t ≡ true) where
         slots = λ j.
             let q : slotAt (freshRecord t) j ≡ emptySlot =
             on-order j 8 (λ h. getD-replicate 8 j emptySlot emptySlot h) (λ h. getD-past (replicate 8 emptySlot) j h) in
-            subst (λ (s : Slot). Inv t s (newBook noMarks)) (sym q) (new-inv t emptySlot noMarks refl refl (omega arith));
+            subst (λ (s : Slot). Inv t s (newBook noMarks)) (sym q)
+            (new-inv t emptySlot noMarks refl refl (omega arith));
       }
 
   -- record and books after a list
-  pub good-after : (es : List Event) → FewDraws t es → Good t (run (freshRecord t) es) (noteAll t blanks (trace (freshRecord t) es))
+  pub good-after : (es : List Event) → FewDraws t es
+      → Good t (run (freshRecord t) es) (noteAll t blanks (trace (freshRecord t) es))
   good-after es few = last es (freshRecord t) blanks start few
 
-  module _ (r : Record) (bs : Books) (g : Good t r bs) (e : Event) (n : Good t (step r e .next) (note t bs (entry e (step r e)))) where
+  module _ (r : Record) (bs : Books) (g : Good t r bs) (e : Event)
+      (n : Good t (step r e .next) (note t bs (entry e (step r e)))) where
     abbrev At : Clause → Type 0
     At P = P bs (entry e (step r e)) (note t bs (entry e (step r e)))
 

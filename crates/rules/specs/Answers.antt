@@ -20,7 +20,8 @@ use Rattle.rules.specs.Step.{Entry, freshRecord, step, choiceOf, trace}
 use Rattle.rules.specs.declared.types.Settings.{Settings}
 use Rattle.rules.specs.declared.types.Event.{Event}
 
--- an event with the fields of a file's record, in the file's order: kind, slot, now, span, draw or identifier, length, acked, flags
+-- an event with the fields of a file's record, in the file's order: kind, slot, now, span, draw or identifier, length,
+-- acked, flags
 abbrev pub event : ℕ → ℕ → ℕ → ℕ → ℕ → ℕ → ℕ → ℕ → Event
 event kind slot now span id len acked flags =
     record { now = now; span = span; id = id; len = len; acked = acked; kind = kind; slot = slot; flags = flags }

@@ -1,4 +1,5 @@
--- The record, one event on it, and a list of events (document 01, "Peer record": "each event gets the record that the last one returned
+-- The record, one event on it, and a list of events (document 01, "Peer record": "each event gets the record that the
+-- last one returned
 -- or, refused, left").
 use Prim.Native.Nat.{ℕ, suc}
 use mathlib.Core.Bool.{Bool, true, false, not, cond}
@@ -108,7 +109,11 @@ choiceReply rival.None = reply.Refused refusal.NoPath
 
 unfoldable pub choiceOf : Record → Event → Stepped
 choiceOf r e =
-    record { next = r; reply = cond (isMargin (marginOf e)) (choiceReply (pickedOf (rivalsFrom 0 (r .slots)) (marginOf e))) (reply.Refused refusal.Margin) }
+    record {
+      next = r;
+      reply = cond (isMargin (marginOf e))
+          (choiceReply (pickedOf (rivalsFrom 0 (r .slots)) (marginOf e))) (reply.Refused refusal.Margin);
+    }
 
 -- ---- events
 
@@ -131,4 +136,5 @@ pub record Entry : Type 0 where
 abbrev pub trace : Record → List Event → List Entry
 trace r [] = []
 trace r (e ∷ es) =
-    record { event = e; number = numberOf (step r e .reply); value = valueOf (step r e .reply) } ∷ trace (step r e .next) es
+    record { event = e; number = numberOf (step r e .reply); value = valueOf (step r e .reply) } ∷ trace
+    (step r e .next) es
