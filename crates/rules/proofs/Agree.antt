@@ -22,15 +22,13 @@ use Rattle.rules.specs.declared.types.Settings.{Settings}
 use Rattle.rules.specs.declared.types.Reply.the-variants as reply
 use Rattle.rules.specs.declared.types.Slot.{Slot}
 use Rattle.rules.proofs.Line.{Lane, laneOf, outCount, Line, new-line}
-use Rattle.rules.proofs.Sizing.{searchIn}
 use Rattle.halving.specs.Need.{span}
 use Rattle.halving.specs.Moves as size
 use Rattle.halving.specs.Moves.{move}
 use Rattle.halving.proofs.Moves.{Kept, opened-kept, opened-under, out-of, by-move, Under}
 
 -- slot and book: they agree; the ring is the waiting line; the search is within its budget, for any bound that full
--- allows; and what a
--- link that carries just the sizes up to L leaves proven and lost
+-- allows; and what a link that carries just the sizes up to L leaves proven and lost
 pub record Inv (t : Settings) (s : Slot) (b : Book) : Type 0 where
   pub agrees : Agrees s b
   pub line : Line t (laneOf (s .path)) (b .probes) (outCount (s .path .sizes))
@@ -39,13 +37,13 @@ pub record Inv (t : Settings) (s : Slot) (b : Book) : Type 0 where
   pub limit : (L : ℕ) → Every (Carries L) (b .sizing .words) → Under L (b .sizing .tally .search)
 
 -- a slot with no path, and one just opened
-pub new-inv : (t : Settings) (s : Slot) (m : Marks) → s .path ≡ newLiveness → marksOf s ≡ m → m .full ≤ 65535
+pub new-inv : (t : Settings) (s : Slot) (m : Marks) → s .path ≡ newLiveness → marksOf (s .used) (s .label) ≡ m → m .full ≤ 65535
     → Inv t s (newBook m)
 new-inv t s m e a f =
     record {
       agrees = record {
         marks = a;
-        search = ap (λ (p : Liveness). searchIn (p .sizes)) e;
+        search = ap (λ (p : Liveness). searchOf (p .sizes)) e;
         probe = λ o. absurd (omega arith);
         probeAt = λ o. absurd (omega arith);
       };
@@ -60,7 +58,7 @@ new-inv t s m e a f =
 abbrev pub align : Slot → Book → Book
 align s b =
     record {
-      marks = marksOf s;
+      marks = marksOf (s .used) (s .label);
       probes = record {
         sent = b .probes .sent;
         timely = b .probes .timely;
@@ -72,7 +70,7 @@ align s b =
         drawn = b .probes .drawn;
       };
       sizing = record {
-        tally = record { search = searchOf s; cleared = b .sizing .tally .cleared; count = b .sizing .tally .count };
+        tally = record { search = searchOf (s .path .sizes); cleared = b .sizing .tally .cleared; count = b .sizing .tally .count };
         probe = b .sizing .probe;
         probeAt = b .sizing .probeAt;
         words = b .sizing .words;
@@ -157,7 +155,7 @@ module _ (t : Settings) (s : Slot) (b₀ : Book) where
         record {
           agrees = record {
             marks = refl;
-            search = ap (λ (x : Sizes). searchIn x) g;
+            search = ap (λ (x : Sizes). searchOf x) g;
             probe = λ o. ap (λ (x : Sizes). x .seek .«probe_id») g ∙ h .agrees .probe o;
             probeAt = λ o. ap (λ (x : Sizes). x .seek .at) g ∙ h .agrees .probeAt o;
           };

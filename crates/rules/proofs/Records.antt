@@ -1,6 +1,5 @@
 -- On every record that a list of events makes: its rings are closed up, and no identifier stands twice in one. Two
--- slots can be put in
--- either order.
+-- slots can be put in either order.
 -- Assumes nothing.
 use Prim.Native.Nat.{ℕ, _+_, _-_, _≤_}
 use mathlib.Core.Bool.{true}

@@ -29,6 +29,7 @@ use Rattle.live.specs.declared.types.Proving.{Proving}
 use Rattle.live.specs.declared.types.Judging.{Judging}
 use Rattle.rules.specs.Rules.{turn, sent, judged, searched}
 use Rattle.rules.specs.Book.{Book, noted, isLoss}
+use Rattle.rules.specs.Demand3.{searchOf}
 use Rattle.rules.specs.declared.types.Settings.{Settings}
 use Rattle.rules.specs.declared.types.Event.{Event}
 use Rattle.rules.specs.declared.types.Reply.the-variants as reply
@@ -38,7 +39,7 @@ use Rattle.rules.proofs.Laws.{cond-cases, or-false, occ}
 use Rattle.rules.proofs.Turns.{Next, refused, withKind, Work}
 use Rattle.rules.proofs.Line.{Lane, laneOf, outCount, none-count, Line, line-less, line-search}
 use Rattle.rules.proofs.Agree.{Inv, align, same, move-kept, known, and-true, not-zero}
-use Rattle.rules.proofs.Sizing.{searchIn, judged-is, send-is}
+use Rattle.rules.proofs.Sizing.{judged-is, send-is}
 use Rattle.halving.specs.Moves as size
 use Rattle.halving.specs.Moves.{move}
 use Rattle.halving.proofs.Moves.{under-move}
@@ -93,7 +94,7 @@ module _ (t : Settings) (s : Slot) (b₀ : Book) where
         → N 7 (turn s (withSizes p (search.provenSizes z (e₀ .len) .sizes)) reply.Nothing)
     unfolding noted
     proved-kept g few =
-        let q : move (s .label .full) T (size.Prove (e₀ .len)) .search ≡ searchIn
+        let q : move (s .label .full) T (size.Prove (e₀ .len)) .search ≡ searchOf
         (search.provenSizes z (e₀ .len) .sizes) = rw g in
         let out : move (s .label .full) T (size.Prove (e₀ .len)) .search .out ≡ z .seek .len =
         ap (λ (x : size.Search). x .out) q in
@@ -211,7 +212,7 @@ module _ (t : Settings) (s : Slot) (b₀ : Book) where
             ∙ ap lostBy (sym (h .agrees .probeAt o))
 
     lost-kept : (q : Liveness) → lost ≡ true → laneOf q ≡ laneOf p
-        → searchIn (q .sizes) ≡ move (s .label .full) T size.Judge .search
+        → searchOf (q .sizes) ≡ move (s .label .full) T size.Judge .search
         → q .sizes .seek .len ≡ 0 → N 9 (turn s q reply.Lost)
     unfolding noted
     lost-kept q l f g n =

@@ -1,6 +1,5 @@
 -- The record, one event on it, and a list of events (document 01, "Peer record": "each event gets the record that the
--- last one returned
--- or, refused, left").
+-- last one returned or, refused, left").
 use Prim.Native.Nat.{ℕ, suc}
 use mathlib.Core.Bool.{Bool, true, false, not, cond}
 use mathlib.Core.List.{List, [], _∷_}
