@@ -20,7 +20,8 @@ use Rattle.rules.specs.declared.types.Settings.{Settings}
 use Rattle.rules.specs.declared.types.Event.{Event}
 use Rattle.rules.specs.declared.types.Slot.{Slot}
 use Rattle.rules.proofs.Turns.{withKind, by-number}
-use Rattle.rules.proofs.Line.{laneOf, outCount, stays}
+use Rattle.rules.proofs.Passing.{stays}
+use Rattle.rules.proofs.Line.{laneOf, outCount}
 use Rattle.rules.proofs.Agree.{Inv, and-true}
 use Rattle.halving.specs.Need.{span}
 use Rattle.halving.specs.Moves as size

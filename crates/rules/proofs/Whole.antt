@@ -27,7 +27,7 @@ use Rattle.rules.specs.declared.types.Slot.{Slot}
 use Rattle.rules.specs.declared.types.Record.{Record}
 use Rattle.rules.specs.declared.types.Turn.{Turn}
 use Rattle.rules.specs.declared.types.Stepped.{Stepped}
-use Rattle.rules.proofs.Laws.{cond-cases, refused-number}
+use Rattle.rules.proofs.Laws.{cond-cases, and-second, refused-number}
 use Rattle.rules.proofs.Turns.{after, Next, withKind, by-number}
 use Rattle.rules.proofs.Agree.{Inv, new-inv}
 use Rattle.rules.proofs.Kept.{Says, kept, said}
@@ -37,10 +37,6 @@ use Rattle.rules.proofs.Clauses.{once-at, polled-at, twelve-at, rested-
 and-one : (a b : Bool) → b ≡ true → (a && b) ≡ a
 and-one true b e = e
 and-one false b e = refl
-
-and-none : (a b : Bool) → b ≡ false → (a && b) ≡ false
-and-none true b e = e
-and-none false b e = refl
 
 getD-past : (l : List Slot) (k : ℕ) → length l ≤ k → getD l k emptySlot ≡ emptySlot
 getD-past [] k h = refl
@@ -131,7 +127,7 @@ module _ (t : Settings) (small : allowed t ≡ true) (r : Record) (bs : Books) (
   note-other : (j : ℕ) → eqb i j ≡ false → note t bs (entry e o) j ≡ bs j
   note-other j q =
       ap (λ (f : Bool). cond f (noted t (bs j) e (valueOf (u .reply))) (bs j))
-      (and-none (eqb (numberOf (u .reply)) 0) (eqb i j) q)
+      (and-second (eqb (numberOf (u .reply)) 0) (eqb i j) q)
 
   -- the slot of the event, one of the eight
   own-held : i < 8 → note t bs (entry e o) i .probes .drawn < 2 ^ 32
