@@ -97,7 +97,13 @@ short = (
                         (omega arith, refl),
                         (
                           (omega arith, refl),
-                          ((omega arith, refl), ((omega arith, refl), ((omega arith, refl), ((omega arith, refl), tt)))),
+                          (
+                            (omega arith, refl),
+                            (
+                              (omega arith, refl),
+                              ((omega arith, refl), ((omega arith, refl), tt)),
+                            ),
+                          ),
                         ),
                       ),
                     ),

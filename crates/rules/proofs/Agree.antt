@@ -37,7 +37,8 @@ pub record Inv (t : Settings) (s : Slot) (b : Book) : Type 0 where
   pub limit : (L : ℕ) → Every (Carries L) (b .sizing .words) → Under L (b .sizing .tally .search)
 
 -- a slot with no path, and one just opened
-pub new-inv : (t : Settings) (s : Slot) (m : Marks) → s .path ≡ newLiveness → marksOf (s .used) (s .label) ≡ m → m .full ≤ 65535
+pub new-inv : (t : Settings) (s : Slot) (m : Marks) → s .path ≡ newLiveness → marksOf (s .used) (s .label) ≡ m
+    → m .full ≤ 65535
     → Inv t s (newBook m)
 new-inv t s m e a f =
     record {
@@ -70,7 +71,12 @@ align s b =
         drawn = b .probes .drawn;
       };
       sizing = record {
-        tally = record { search = searchOf (s .path .sizes); cleared = b .sizing .tally .cleared; count = b .sizing .tally .count };
+        tally = record {
+          search = searchOf (s .path .sizes);
+          cleared = b .sizing .tally .cleared;
+          count =
+              b .sizing .tally .count;
+        };
         probe = b .sizing .probe;
         probeAt = b .sizing .probeAt;
         words = b .sizing .words;

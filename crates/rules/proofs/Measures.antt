@@ -7,6 +7,7 @@ use mathlib.Core.List.{List, [], _∷_}
 use lib.Dec.{leb, ltb}
 use lib.ListN.{getD, set, replicate}
 use lib.Ieee.{Float, isNan, le, ofBits}
+use Rattle.base.proofs.Cases.{cond-cases}
 use Rattle.base.specs.Limits.{isOverlong, isUndersize, isEndless}
 use Rattle.base.specs.declared.types.Refusal.{Refusal}
 use Rattle.base.specs.declared.types.Refusal.the-variants as refusal
@@ -25,21 +26,12 @@ use Rattle.rtt.specs.Spans.{baseRtt}
 use Rattle.seek.specs.Search as search
 use Rattle.seek.specs.declared.types.Settled.{Settled}
 use Rattle.live.specs.Probe.{sendOf, answerOf, expireOf, expiredBy}
+use Rattle.live.specs.Answers.{answerValue, isAccepted, hasLapsed}
 use Rattle.live.specs.Search as live
 use Rattle.live.specs.Times as times
+use Rattle.live.specs.declared.types.Outcome.{Outcome}
+use Rattle.live.specs.declared.types.Answer.{Answer}
 use Rattle.live.specs.declared.types.Liveness.{Liveness}
-use Rattle.live.specs.declared.types.Sending.{Sending}
-use Rattle.live.specs.declared.types.Answering.{Answering}
-use Rattle.live.specs.declared.types.Expiring.{Expiring}
-use Rattle.live.specs.declared.types.Expired.{Expired}
-use Rattle.live.specs.declared.types.Expired.the-variants as expired
-use Rattle.live.specs.declared.types.LenAnswer.{LenAnswer}
-use Rattle.live.specs.declared.types.LenAnswer.the-variants as lens
-use Rattle.live.specs.declared.types.Settling.{Settling}
-use Rattle.live.specs.declared.types.Proving.{Proving}
-use Rattle.live.specs.declared.types.Raising.{Raising}
-use Rattle.live.specs.declared.types.Judging.{Judging}
-use Rattle.live.specs.declared.types.Doing.{Doing}
 use Rattle.scores.specs.Scores.{scored, pathScore, pathSteady}
 use Rattle.scores.specs.declared.MaybeScore.{MaybeScore}
 use Rattle.scores.specs.declared.MaybeScore.the-variants as score
@@ -54,7 +46,7 @@ use Rattle.rules.specs.declared.types.Record.{Record}
 use Rattle.rules.specs.declared.types.Stepped.{Stepped}
 use Rattle.rules.specs.declared.types.Polling.{Polling}
 use Rattle.rules.specs.declared.types.Turn.{Turn}
-use Rattle.rules.proofs.Laws.{cond-cases, put-at}
+use Rattle.rules.proofs.Laws.{put-at}
 use Rattle.rules.proofs.Turns.{withKind, Work, slot-kept}
 
 -- a path's ETX is within 1 and 100
@@ -71,21 +63,18 @@ module _ (now : ℕ) (overdue : Bool) (cap : ℕ) where
   expire-etx : (p : Liveness) → E p → E (expireOf p now overdue cap .path)
   unfolding expireOf
   expire-etx p h =
-      cond-cases (λ (x : Expiring). E (x .path)) (isEndless cap) _ _ (λ f. h)
-      (λ f. cond-cases (λ (x : Expiring). E (x .path))
+      cond-cases (λ (x : Outcome). E (x .path)) (isEndless cap) _ _ (λ f. h)
+      (λ f. cond-cases (λ (x : Outcome). E (x .path))
       (leb 8 (scanOf (isPassed now overdue) (deferOf (p .traffic .«data_at») cap now overdue) (p .ring) .slot)) _ _
       (λ g. h) (λ g. h))
 
-  lapsed-etx : (x : Expired) (p : Liveness) (rest : Polling) → E p → E (rest .path) → E (lapsed x p rest .path)
-  lapsed-etx expired.None p rest h k = h
-  lapsed-etx expired.Counted p rest h k = k
-  lapsed-etx expired.NotCounted p rest h k = k
-  lapsed-etx (expired.Refused why) p rest h k = h
+  lapsed-etx : (x : Outcome) (rest : Polling) → E (x .path) → E (rest .path) → E (lapsed x rest .path)
+  lapsed-etx x rest h k = cond-cases (λ (r : Polling). E (r .path)) (hasLapsed (x .answer)) _ _ (λ f. k) (λ f. h)
 
   poll-etx : (n : ℕ) (p : Liveness) → E p → E (pollOf n p now overdue cap .path)
   poll-etx zero p h = h
   poll-etx (suc n) p h =
-      lapsed-etx (expireOf p now overdue cap .answer) _ _ (expire-etx p h)
+      lapsed-etx (expireOf p now overdue cap) _ (expire-etx p h)
       (poll-etx n (expireOf p now overdue cap .path) (expire-etx p h))
 
 module _ (t : Settings) (s : Slot) (e₀ : Event) (h : E (s .path)) where
@@ -98,24 +87,25 @@ module _ (t : Settings) (s : Slot) (e₀ : Event) (h : E (s .path)) where
   by-probe : Work t s e₀ N 2
   unfolding sendOf
   by-probe ok =
-      cond-cases (λ (x : Sending). E (x .path)) (isOverlong (e₀ .len)) _ _ (λ f. h)
-      (λ f. cond-cases (λ (x : Sending). E (x .path)) (leb 8 (firstFree (p .ring))) _ _ (λ g. h) (λ g. h))
+      cond-cases (λ (x : Outcome). E (x .path)) (isOverlong (e₀ .len)) _ _ (λ f. h)
+      (λ f. cond-cases (λ (x : Outcome). E (x .path)) (leb 8 (firstFree (p .ring))) _ _ (λ g. h) (λ g. h))
 
   ring-etx : E (answerOf p (e₀ .id) .path)
   unfolding answerOf
   ring-etx =
-      cond-cases (λ (x : Answering). E (x .path)) (ltb (found (e₀ .id) (p .ring)) 8) _ _ (λ f. h)
-      (λ f. cond-cases (λ (x : Answering). E (x .path)) (ltb (found (e₀ .id) (p .late)) 4) _ _ (λ g. h) (λ g. h))
+      cond-cases (λ (x : Outcome). E (x .path)) (ltb (found (e₀ .id) (p .ring)) 8) _ _ (λ f. h)
+      (λ f. cond-cases (λ (x : Outcome). E (x .path)) (ltb (found (e₀ .id) (p .late)) 4) _ _ (λ g. h) (λ g. h))
 
   acked-etx : (q : Liveness) (n : ℕ) → E q → E (live.seekProvedOf q n (e₀ .acked) (e₀ .now) .path)
   unfolding live.seekProvedOf
   acked-etx q n k =
-      cond-cases (λ (x : Raising). E (x .path)) (isOverlong n) _ _ (λ f. k)
-      (λ f. cond-cases (λ (x : Raising). E (x .path)) (isOverlong (e₀ .acked)) _ _ (λ g. k) (λ g. k))
+      cond-cases (λ (x : Outcome). E (x .path)) (isOverlong n) _ _ (λ f. k)
+      (λ f. cond-cases (λ (x : Outcome). E (x .path)) (isOverlong (e₀ .acked)) _ _ (λ g. k) (λ g. k))
 
-  answered-etx : (x : LenAnswer) (q : Liveness) → E q → N 3 (answered x q s (withKind e₀ 3))
-  answered-etx (lens.Len n) q k = acked-etx q n k
-  answered-etx (lens.Refused why) q k = ring-etx
+  answered-etx : (x : Outcome) → E (x .path) → N 3 (answered x s (withKind e₀ 3))
+  answered-etx x k =
+      cond-cases (N 3) (isAccepted (x .answer)) _ _ (λ f. acked-etx (x .path) (answerValue (x .answer)) k)
+      (λ f. ring-etx)
 
   settled-etx : (o : MaybeLen) (d : Settled) → E (live.settledBy p o d .path)
   settled-etx len.None d = h
@@ -124,13 +114,12 @@ module _ (t : Settings) (s : Slot) (e₀ : Event) (h : E (s .path)) where
   named-etx : E (live.seekAnswerOf p (e₀ .id) (t .gap) .path)
   unfolding live.seekAnswerOf
   named-etx =
-      cond-cases (λ (x : Settling). E (x .path)) (isEndless (t .gap)) _ _ (λ f. h)
+      cond-cases (λ (x : Outcome). E (x .path)) (isEndless (t .gap)) _ _ (λ f. h)
       (λ f. settled-etx (search.settledSearch (p .sizes) (e₀ .id) (t .gap) .len)
       (search.settledSearch (p .sizes) (e₀ .id) (t .gap)))
 
   by-answer : Work t s e₀ N 3
-  by-answer ok = answered-etx (live.seekAnswerOf p (e₀ .id) (t .gap) .answer)
-      (live.seekAnswerOf p (e₀ .id) (t .gap) .path) named-etx
+  by-answer ok = answered-etx (live.seekAnswerOf p (e₀ .id) (t .gap)) named-etx
 
   by-poll : Work t s e₀ N 4
   by-poll ok = poll-etx (e₀ .now) _ (t .cap) 9 p h
@@ -138,33 +127,32 @@ module _ (t : Settings) (s : Slot) (e₀ : Event) (h : E (s .path)) where
   by-sample : Work t s e₀ N 5
   unfolding times.sampleOf
   by-sample ok =
-      cond-cases (λ (x : Doing). E (x .path)) (isEndless (e₀ .span)) _ _ (λ f. h)
-      (λ f. cond-cases (λ (x : Doing). E (x .path)) (isEndless (t .window)) _ _ (λ f. h)
-      (λ f. cond-cases (λ (x : Doing). E (x .path)) (isEndless (t .horizon)) _ _ (λ f. h) (λ f. h)))
+      cond-cases (λ (x : Outcome). E (x .path)) (isEndless (e₀ .span)) _ _ (λ f. h)
+      (λ f. cond-cases (λ (x : Outcome). E (x .path)) (isEndless (t .window)) _ _ (λ f. h)
+      (λ f. cond-cases (λ (x : Outcome). E (x .path)) (isEndless (t .horizon)) _ _ (λ f. h) (λ f. h)))
 
   by-prove : Work t s e₀ N 7
   unfolding live.proveOf
   by-prove ok =
-      cond-cases (λ (x : Proving). E (x .path)) (isOverlong (e₀ .len)) _ _ (λ f. h)
-      (λ f. cond-cases (λ (x : Proving). E (x .path)) (isUndersize (e₀ .len)) _ _ (λ g. h) (λ g. h))
+      cond-cases (λ (x : Outcome). E (x .path)) (isOverlong (e₀ .len)) _ _ (λ f. h)
+      (λ f. cond-cases (λ (x : Outcome). E (x .path)) (isUndersize (e₀ .len)) _ _ (λ g. h) (λ g. h))
 
   sent-etx : (n : ℕ) → E (live.seekSendOf p (e₀ .now) n (e₀ .id) .path)
   unfolding live.seekSendOf
-  sent-etx n = cond-cases (λ (x : Sending). E (x .path)) (isOverlong n) _ _ (λ f. h) (λ f. h)
+  sent-etx n = cond-cases (λ (x : Outcome). E (x .path)) (isOverlong n) _ _ (λ f. h) (λ f. h)
 
-  searched-etx : (x : LenAnswer) → N 8 (searched x s (withKind e₀ 8))
-  searched-etx (lens.Len n) = sent-etx n
-  searched-etx (lens.Refused why) = h
+  searched-etx : (x : Answer) → N 8 (searched x s (withKind e₀ 8))
+  searched-etx x = cond-cases (N 8) (isAccepted x) _ _ (λ f. sent-etx (answerValue x)) (λ f. h)
 
   by-judge : Work t s e₀ N 9
   unfolding live.seekJudgeOf
   by-judge ok =
-      cond-cases (λ (x : Judging). E (x .path)) (isEndless (e₀ .span)) _ _ (λ f. h)
-      (λ f. cond-cases (λ (x : Judging). E (x .path)) (isEndless (t .gap)) _ _ (λ g. h) (λ g. h))
+      cond-cases (λ (x : Outcome). E (x .path)) (isEndless (e₀ .span)) _ _ (λ f. h)
+      (λ f. cond-cases (λ (x : Outcome). E (x .path)) (isEndless (t .gap)) _ _ (λ g. h) (λ g. h))
 
   by-data : Work t s e₀ N 10
   unfolding times.heardOf
-  by-data ok = cond-cases (λ (x : Doing). E (x .path)) (isOverlong (e₀ .len)) _ _ (λ f. h) (λ f. h)
+  by-data ok = cond-cases (λ (x : Outcome). E (x .path)) (isOverlong (e₀ .len)) _ _ (λ f. h) (λ f. h)
 
   slot-etx : (k : ℕ) → N k (onSlot t s (withKind e₀ k))
   slot-etx =
@@ -239,7 +227,8 @@ real etx (time.Some rtt) h x e = ap isNan (sym (same e)) ∙ score-real etx rtt 
 
 pub score-after : (t : Settings) (es : List Event) (j : ℕ) (x : Float)
     → pathScore (slotAfter t es j .path) ≡ score.Some x → isNan x ≡ false
-score-after t es j = real (slotAfter t es j .path .etx) (minRtt (slotAfter t es j .path .rtts .rtts)) (etx-after t es j)
+score-after t es j = real (slotAfter t es j .path .etx) (minRtt (slotAfter t es j .path .rtts .samples))
+    (etx-after t es j)
 
 pub steady-after : (t : Settings) (es : List Event) (j : ℕ) (x : Float)
     → pathSteady (slotAfter t es j .path) ≡ score.Some x → isNan x ≡ false

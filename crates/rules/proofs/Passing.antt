@@ -147,6 +147,7 @@ stays t p b C now overdue h =
     (λ q. and-first _ _ (sym (ap (passedAt now overdue) q) ∙ due))
     (λ q. and-second (passedAt now overdue (x .given)) _ (sym (ap (passedAt now overdue) q) ∙ due))
     (k .0))
-    (λ x u f k. and-second (passedAt now overdue (x .given)) _ (defer-due (b .heard) (t .cap) now overdue (x .probe) u f .1))
+    (λ x u f k. and-second (passedAt now overdue (x .given)) _
+    (defer-due (b .heard) (t .cap) now overdue (x .probe) u f .1))
     (b .waiting)
     (both-every (DueFrom t) (λ (x : Wait). isUsed (x .probe) ≡ true) (b .waiting) (h .dues) used)

@@ -8,6 +8,8 @@ use native.Mathlib.Omega.{arith}
 use lib.Dec.{leb, ltb}
 use lib.ListN.{length, length-map}
 use borrow.Author.Tests.{ltb-false}
+use Rattle.base.proofs.Cases.{cond-cases}
+use Rattle.base.specs.Limits.{maxLen, isOverlong, isUndersize, isEndless}
 use Rattle.base.specs.declared.types.Refusal.{Refusal}
 use Rattle.base.specs.declared.types.Refusal.the-variants as refusal
 use Rattle.base.specs.declared.types.MaybeId.{MaybeId}
@@ -21,17 +23,16 @@ use Rattle.live.specs.Path.{withTraffic}
 use Rattle.live.specs.Probe.{sendOf, sentAt}
 use Rattle.live.specs.Times as times
 use Rattle.live.specs.declared.types.Traffic.{Traffic}
+use Rattle.live.specs.declared.types.Outcome.{Outcome}
 use Rattle.live.specs.declared.types.Liveness.{Liveness}
-use Rattle.live.specs.declared.types.Sending.{Sending}
-use Rattle.live.specs.declared.types.Doing.{Doing}
-use Rattle.rules.specs.Rules.{emptySlot, turn, sent}
+use Rattle.rules.specs.Rules.{emptySlot, turn, turnBy}
 use Rattle.rules.specs.Book.{Book, noMarks, marksBy, noted}
 use Rattle.rules.specs.declared.types.Settings.{Settings}
 use Rattle.rules.specs.declared.types.Event.{Event}
 use Rattle.rules.specs.declared.types.Reply.the-variants as reply
 use Rattle.rules.specs.declared.types.Slot.{Slot}
 use Rattle.rules.specs.declared.types.Turn.{Turn}
-use Rattle.rules.proofs.Laws.{cond-cases, or-false, occ}
+use Rattle.rules.proofs.Laws.{or-false, occ}
 use Rattle.rules.proofs.Ids.{known-less}
 use Rattle.rules.proofs.Turns.{Next, refused, withKind, Work}
 use Rattle.rules.proofs.Line.{laneOf, probeOf, outCount, inHand, line-send}
@@ -68,8 +69,8 @@ module _ (t : Settings) (s : Slot) (b₀ : Book) where
     pub by-open : Work t s e₀ N 1
     unfolding noted
     by-open ok few =
-        let r = or-false (ltb 65535 size || false) (ltb size 27) (ok .1 .1 .1 .1 .1 .0) in
-        new-inv t _ (marksBy (e 1)) refl refl (ltb-false 65535 size (or-false (ltb 65535 size) false (r .0) .0))
+        let r = or-false (isOverlong size || false) (isUndersize size) (ok .1 .1 .1 .1 .1 .0) in
+        new-inv t _ (marksBy (e 1)) refl refl (ltb-false 65535 size (or-false (isOverlong size) false (r .0) .0))
 
     pub by-close : Work t s e₀ N 14
     unfolding noted
@@ -80,11 +81,11 @@ module _ (t : Settings) (s : Slot) (b₀ : Book) where
     pub by-sample : Work t s e₀ N 5
     unfolding noted times.sampleOf
     by-sample ok =
-        cond-cases (λ (x : Doing). N 5 (turn s (x .path) reply.Nothing)) (leb (2 ^ 62) (e₀ .span)) _ _
+        cond-cases (λ (x : Outcome). N 5 (turn s (x .path) reply.Nothing)) (isEndless (e₀ .span)) _ _
         (λ f few. same t s b₀ h p refl refl)
-        (λ f. cond-cases (λ (x : Doing). N 5 (turn s (x .path) reply.Nothing)) (leb (2 ^ 62) (t .window)) _ _
+        (λ f. cond-cases (λ (x : Outcome). N 5 (turn s (x .path) reply.Nothing)) (isEndless (t .window)) _ _
         (λ f few. same t s b₀ h p refl refl)
-        (λ f. cond-cases (λ (x : Doing). N 5 (turn s (x .path) reply.Nothing)) (leb (2 ^ 62) (t .horizon)) _ _
+        (λ f. cond-cases (λ (x : Outcome). N 5 (turn s (x .path) reply.Nothing)) (isEndless (t .horizon)) _ _
         (λ f few. same t s b₀ h p refl refl)
         (λ f few. same t s b₀ h _ refl refl)))
 
@@ -120,9 +121,7 @@ module _ (t : Settings) (s : Slot) (b₀ : Book) where
     pub by-data : Work t s e₀ N 10
     unfolding times.heardOf
     by-data ok =
-        cond-cases (λ (x : Doing). N 10 (turn s (times.carriedOf (x .path) now) reply.Nothing)) (ltb 65535 size)
-        (times.refusedDoing p refusal.Length)
-        (times.doneWith (withTraffic p (times.heardTraffic (p .traffic) size now)))
+        cond-cases (λ (x : Outcome). N 10 (turn s (times.carriedOf (x .path) now) reply.Nothing)) (isOverlong size) _ _
         (λ f. data-kept (p .traffic)) (λ f. data-kept (times.heardTraffic (p .traffic) size now))
 
     -- ---- sweep
@@ -158,7 +157,7 @@ module _ (t : Settings) (s : Slot) (b₀ : Book) where
 
     -- whatever becomes of `since`
     sent-kept : (since : MaybeId) → leb 8 (firstFree (p .ring)) ≡ false
-        → N 2 (sent s (sentAt p (firstFree (p .ring)) (idsWith since) (takenOf (p .ids .«next_id») (e₀ .id)) now
+        → N 2 (turnBy s (sentAt p (firstFree (p .ring)) (idsWith since) (takenOf (p .ids .«next_id») (e₀ .id)) now
         (e₀ .span) size))
     unfolding noted
     sent-kept since f few =
@@ -173,11 +172,11 @@ module _ (t : Settings) (s : Slot) (b₀ : Book) where
     pub by-probe : Work t s e₀ N 2
     unfolding sendOf
     by-probe ok =
-        cond-cases (λ (x : Sending). N 2 (sent s x)) (ltb 65535 size) _ _ (λ f. no 2 refusal.Length)
-        (λ f. cond-cases (λ (x : Sending). N 2 (sent s x)) (leb 8 (firstFree (p .ring))) _ _ (λ g. no 2 refusal.Full)
+        cond-cases (λ (x : Outcome). N 2 (turnBy s x)) (isOverlong size) _ _ (λ f. no 2 refusal.Length)
+        (λ f. cond-cases (λ (x : Outcome). N 2 (turnBy s x)) (leb 8 (firstFree (p .ring))) _ _ (λ g. no 2 refusal.Full)
         (λ g.
         cond-cases (λ (m : Ids). N 2
-        (sent s (sentAt p (firstFree (p .ring)) m (takenOf (m .«next_id») (e₀ .id)) now (e₀ .span) size)))
+        (turnBy s (sentAt p (firstFree (p .ring)) m (takenOf (m .«next_id») (e₀ .id)) now (e₀ .span) size)))
         (allCount (p .ids .since) (p .ring)) _ _
         (λ k. sent-kept mid.None g)
         (λ k. sent-kept (p .ids .since) g)))

@@ -1,4 +1,5 @@
--- The smallest lists on which a clause of demand 3 could break, computed: each is named for the edit in must-fail/ that breaks
+-- The smallest lists on which a clause of demand 3 could break, computed: each is named for the edit in must-fail/ that
+-- breaks
 -- it, so that what is refused first is the clause on its list.
 -- Assumes nothing.
 use Prim.Native.Nat.{ℕ}
@@ -6,6 +7,7 @@ use mathlib.Core.Bool.{Bool, true, false}
 use mathlib.Core.Path.{_≡_, refl}
 use mathlib.Core.List.{List, [], _∷_, map}
 use Rattle.base.specs.Refusals.{refusalNumber}
+use Rattle.base.specs.declared.types.MaybeTime.the-variants as time
 use Rattle.ring.specs.Ring.{waiting}
 use Rattle.rules.specs.Answers.{event, settings, answers}
 use Rattle.rules.specs.Event.{bit, numberOf, valueOf}
@@ -97,7 +99,8 @@ polls-due = (refl, tt)
 
 -- ---- settled: a late answer; a judge before the timeout; a judge with no later answer
 
-settled-late : says (opens 27 0 ∷ probe ∷ poll ∷ []) (answer 7) ≡ answerSays (bookAfter t (opens 27 0 ∷ probe ∷ poll ∷ []) 0) (answer 7)
+settled-late : says (opens 27 0 ∷ probe ∷ poll ∷ []) (answer 7) ≡ answerSays
+    (bookAfter t (opens 27 0 ∷ probe ∷ poll ∷ []) 0) (answer 7)
 unfolding answers noted
 settled-late = refl
 
@@ -137,5 +140,11 @@ unfolding answers noted
 agrees-full = refl
 
 -- ---- the refusals are tried in the table's order, 15 first
-order-kind : (used : Bool) (e : Event) → map (λ x. refusalNumber (x .0)) (refusals used e) ≡ 15 ∷ 1 ∷ 2 ∷ 3 ∷ 4 ∷ 5 ∷ 6 ∷ []
+order-kind : (used : Bool) (e : Event)
+    → map (λ x. refusalNumber (x .0)) (refusals used e) ≡ 15 ∷ 1 ∷ 2 ∷ 3 ∷ 4 ∷ 5 ∷ 6 ∷ []
 order-kind used e = refl
+
+-- the record's sent instant
+agrees-at : slotAfter t out 0 .path .sizes .seek .at ≡ time.Some (bookAfter t out 0 .sizing .probeAt)
+unfolding answers noted
+agrees-at = refl

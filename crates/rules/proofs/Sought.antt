@@ -7,27 +7,26 @@ use mathlib.Core.List.{[], _∷_}
 use native.Mathlib.Omega.{arith}
 use lib.Dec.{eqb, leb, ltb}
 use borrow.Author.Tests.{eqb-true, eq-eqb}
+use Rattle.base.specs.Limits.{minLen, isOverlong, isUndersize, isEndless}
 use Rattle.base.specs.declared.types.Refusal.{Refusal}
 use Rattle.base.specs.declared.types.Refusal.the-variants as refusal
 use Rattle.base.specs.declared.types.MaybeLen.{MaybeLen}
 use Rattle.base.specs.declared.types.MaybeLen.the-variants as len
 use Rattle.base.specs.declared.types.MaybeTime.{MaybeTime}
 use Rattle.base.specs.declared.types.MaybeTime.the-variants as time
-use Rattle.base.proofs.Cases.{on-flag, never}
+use Rattle.base.proofs.Cases.{on-flag, never, cond-cases}
 use Rattle.ring.specs.Ids.{takenOf}
 use Rattle.seek.specs.Rules.{knownOf}
 use Rattle.seek.specs.Search as search
 use Rattle.seek.specs.declared.types.Sizes.{Sizes}
 use Rattle.seek.specs.declared.types.Judged.{Judged}
 use Rattle.live.specs.Path.{withSizes}
-use Rattle.live.specs.Probe.{noId, takeIdOf}
+use Rattle.live.specs.Probe.{takeIdOf}
 use Rattle.live.specs.Search as live
+use Rattle.live.specs.declared.types.Outcome.{Outcome}
+use Rattle.live.specs.declared.types.Answer.{Answer}
 use Rattle.live.specs.declared.types.Liveness.{Liveness}
-use Rattle.live.specs.declared.types.Sending.{Sending}
-use Rattle.live.specs.declared.types.LenAnswer.{LenAnswer}
-use Rattle.live.specs.declared.types.Proving.{Proving}
-use Rattle.live.specs.declared.types.Judging.{Judging}
-use Rattle.rules.specs.Rules.{turn, sent, judged, searched}
+use Rattle.rules.specs.Rules.{turn, turnBy, searched}
 use Rattle.rules.specs.Book.{Book, noted, isLoss}
 use Rattle.rules.specs.Demand3.{searchOf}
 use Rattle.rules.specs.declared.types.Settings.{Settings}
@@ -35,7 +34,7 @@ use Rattle.rules.specs.declared.types.Event.{Event}
 use Rattle.rules.specs.declared.types.Reply.the-variants as reply
 use Rattle.rules.specs.declared.types.Slot.{Slot}
 use Rattle.rules.specs.declared.types.Turn.{Turn}
-use Rattle.rules.proofs.Laws.{cond-cases, or-false, occ}
+use Rattle.rules.proofs.Laws.{or-false, occ}
 use Rattle.rules.proofs.Turns.{Next, refused, withKind, Work}
 use Rattle.rules.proofs.Line.{Lane, laneOf, outCount, none-count, Line, line-less, line-search}
 use Rattle.rules.proofs.Agree.{Inv, align, same, move-kept, known, and-true, not-zero}
@@ -90,7 +89,7 @@ module _ (t : Settings) (s : Slot) (b₀ : Book) where
           limit = λ L w. under-move L (s .label .full) T size.Fresh (h .limit L w) tt;
         }
 
-    proved-kept : ltb (e₀ .len) 27 ≡ false
+    proved-kept : isUndersize (e₀ .len) ≡ false
         → N 7 (turn s (withSizes p (search.provenSizes z (e₀ .len) .sizes)) reply.Nothing)
     unfolding noted
     proved-kept g few =
@@ -114,10 +113,10 @@ module _ (t : Settings) (s : Slot) (b₀ : Book) where
     pub by-prove : Work t s e₀ N 7
     unfolding live.proveOf
     by-prove ok =
-        let r = or-false (ltb 65535 (e₀ .len) || false) (ltb (e₀ .len) 27) (ok .1 .1 .1 .1 .1 .0) in
-        cond-cases (λ (x : Proving). N 7 (turn s (x .path) reply.Nothing)) (ltb 65535 (e₀ .len)) _ _
-        (λ f. never f (or-false (ltb 65535 (e₀ .len)) false (r .0) .0))
-        (λ f. cond-cases (λ (x : Proving). N 7 (turn s (x .path) reply.Nothing)) (ltb (e₀ .len) 27) _ _
+        let r = or-false (isOverlong (e₀ .len) || false) (isUndersize (e₀ .len)) (ok .1 .1 .1 .1 .1 .0) in
+        cond-cases (λ (x : Outcome). N 7 (turn s (x .path) reply.Nothing)) (isOverlong (e₀ .len)) _ _
+        (λ f. never f (or-false (isOverlong (e₀ .len)) false (r .0) .0))
+        (λ f. cond-cases (λ (x : Outcome). N 7 (turn s (x .path) reply.Nothing)) (isUndersize (e₀ .len)) _ _
         (λ g. never g (r .1)) proved-kept)
 
     -- ---- search
@@ -142,7 +141,7 @@ module _ (t : Settings) (s : Slot) (b₀ : Book) where
         (λ f. omega arith)
 
     searched-kept : (n : ℕ) → Proposes n
-        → N 8 (sent s (live.seekSentAt (takeIdOf p (e₀ .id) .path) now n (takeIdOf p (e₀ .id) .id)))
+        → N 8 (turnBy s (live.seekSentAt (takeIdOf p (e₀ .id) .path) now n (takeIdOf p (e₀ .id) .id)))
     unfolding noted search.sentSearch
     searched-kept n q few =
         let v : ℕ = takenOf (p .ids .«next_id») (e₀ .id) in
@@ -168,15 +167,15 @@ module _ (t : Settings) (s : Slot) (b₀ : Book) where
     unfolding live.seekSendOf
     by-size len.None q = no 8 refusal.NoSize
     by-size (len.Some n) q =
-        cond-cases (λ (x : Sending). N 8 (sent s x)) (ltb 65535 n) (noId p refusal.Length) _
+        cond-cases (λ (x : Outcome). N 8 (turnBy s x)) (isOverlong n) _ _
         (λ f. no 8 refusal.Length) (λ f. searched-kept n (q n refl))
 
     pub by-search : Work t s e₀ N 8
     unfolding live.seekSizeOf
     by-search ok =
-        cond-cases (λ (x : LenAnswer). N 8 (searched x s (e 8))) (ltb 65535 (s .label .full)) _ _
+        cond-cases (λ (x : Answer). N 8 (searched x s (e 8))) (isOverlong (s .label .full)) _ _
         (λ f. no 8 refusal.Length)
-        (λ f. cond-cases (λ (x : LenAnswer). N 8 (searched x s (e 8))) (ltb (s .label .full) 27) _ _
+        (λ f. cond-cases (λ (x : Answer). N 8 (searched x s (e 8))) (isUndersize (s .label .full)) _ _
         (λ g. no 8 refusal.Length)
         (λ g. by-size (search.searchSize z (s .label .full) now) proposes))
 
@@ -241,14 +240,14 @@ module _ (t : Settings) (s : Slot) (b₀ : Book) where
     -- the cases of a judge: refused, lost, or it waits
     module _ (Q : Turn → Type 0) (no : Q (turn s p (reply.Refused refusal.Duration)))
         (yes : lost ≡ true → Q (turn s
-        (withSizes p (search.dropOf z (knownOf 27 (z .proven)) now (t .gap) .sizes)) reply.Lost))
+        (withSizes p (search.dropOf z (knownOf minLen (z .proven)) now (t .gap) .sizes)) reply.Lost))
         (wait : lost ≡ false → Q (turn s p reply.Waits)) where
-      pub judge-cases : Q (judged s (live.seekJudgeOf p now (e₀ .span) (t .gap)))
+      pub judge-cases : Q (turnBy s (live.seekJudgeOf p now (e₀ .span) (t .gap)))
       unfolding live.seekJudgeOf search.judgedSearch
       judge-cases =
-          cond-cases (λ (x : Judging). Q (judged s x)) (leb (2 ^ 62) (e₀ .span)) _ _ (λ f. no)
-          (λ f. cond-cases (λ (x : Judging). Q (judged s x)) (leb (2 ^ 62) (t .gap)) _ _ (λ g. no)
-          (λ g. cond-cases (λ (x : Judged). Q (judged s (live.judgedBy p x))) lost _ _ yes wait))
+          cond-cases (λ (x : Outcome). Q (turnBy s x)) (isEndless (e₀ .span)) _ _ (λ f. no)
+          (λ f. cond-cases (λ (x : Outcome). Q (turnBy s x)) (isEndless (t .gap)) _ _ (λ g. no)
+          (λ g. cond-cases (λ (x : Judged). Q (turnBy s (live.judgedBy p x))) lost _ _ yes wait))
 
     pub by-judge : Work t s e₀ N 9
     by-judge ok =
@@ -256,6 +255,6 @@ module _ (t : Settings) (s : Slot) (b₀ : Book) where
         (λ q.
         let some : 1 ≤ z .seek .len = lost-out (z .seek .at) q in
         let k = known t s b₀ h some in
-        lost-kept (withSizes p (search.dropOf z (knownOf 27 (z .proven)) now (t .gap) .sizes)) q refl
+        lost-kept (withSizes p (search.dropOf z (knownOf minLen (z .proven)) now (t .gap) .sizes)) q refl
         (judged-is z (T .cleared) (T .count) (s .label .full) some (k .1 .0) (k .1 .1) now (t .gap)) refl)
         waits-kept

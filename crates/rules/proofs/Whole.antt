@@ -11,7 +11,7 @@ use lib.Seq.{getD-set-same, getD-set-other}
 use borrow.Author.Tests.{lt-ltb, eqb-true, eqb-false, eq-eqb}
 use Rattle.base.specs.declared.types.Refusal.{Refusal}
 use Rattle.base.specs.declared.types.Refusal.the-variants as refusal
-use Rattle.base.proofs.Cases.{on-flag, on-order, never}
+use Rattle.base.proofs.Cases.{on-flag, on-order, never, cond-cases}
 use Rattle.base.proofs.BookLaws.{holds-kept}
 use Rattle.ring.specs.Ring.{noSent, isUsed}
 use Rattle.select.specs.Choice.{pickedOf}
@@ -27,7 +27,7 @@ use Rattle.rules.specs.declared.types.Slot.{Slot}
 use Rattle.rules.specs.declared.types.Record.{Record}
 use Rattle.rules.specs.declared.types.Turn.{Turn}
 use Rattle.rules.specs.declared.types.Stepped.{Stepped}
-use Rattle.rules.proofs.Laws.{cond-cases, and-second, refused-number}
+use Rattle.rules.proofs.Laws.{and-second, refused-number}
 use Rattle.rules.proofs.Turns.{after, Next, withKind, by-number}
 use Rattle.rules.proofs.Agree.{Inv, new-inv}
 use Rattle.rules.proofs.Kept.{Says, kept, said}
