@@ -6,6 +6,8 @@ use Prim.Native.Nat.{ℕ}
 use mathlib.Core.Bool.{Bool, true, false}
 use mathlib.Core.Path.{_≡_, refl}
 use mathlib.Core.List.{List, [], _∷_, map}
+use mathlib.Core.Logic.{inr}
+use native.Mathlib.Omega.{arith}
 use Rattle.base.specs.Refusals.{refusalNumber}
 use Rattle.base.specs.declared.types.MaybeTime.the-variants as time
 use Rattle.ring.specs.Ring.{waiting}
@@ -14,7 +16,7 @@ use Rattle.rules.specs.Event.{bit, numberOf, valueOf}
 use Rattle.rules.specs.Rules.{refusals}
 use Rattle.rules.specs.Step.{freshRecord, run, step}
 use Rattle.rules.specs.Book.{answerSays, judgeSays, noted}
-use Rattle.rules.specs.Demand3.{Every, Sum, Stays, marksOf, searchOf, slotAfter, bookAfter}
+use Rattle.rules.specs.Demand3.{Every, Sum, Stays, Near, marksOf, searchOf, slotAfter, bookAfter}
 use Rattle.rules.specs.declared.types.Settings.{Settings}
 use Rattle.rules.specs.declared.types.Event.{Event}
 
@@ -148,3 +150,32 @@ order-kind used e = refl
 agrees-at : slotAfter t out 0 .path .sizes .seek .at ≡ time.Some (bookAfter t out 0 .sizing .probeAt)
 unfolding answers noted
 agrees-at = refl
+
+-- ---- chosen: not slot 0, if it is not open; tier 0 takes part; a pinned one before a higher tier; a margin of 1 is allowed
+
+abbrev opensAt : ℕ → ℕ → Event
+opensAt slot flags = event 1 slot 0 0 0 27 0 flags
+
+-- with margin 1
+abbrev choose : Event
+choose = event 15 0 0 0x3ff0_0000_0000_0000 0 0 0 0
+
+chosen-zero : says (opensAt 1 0 ∷ []) choose ≡ 1
+unfolding answers noted
+chosen-zero = refl
+
+chosen-tier : numberOf (step (run (freshRecord t) (opensAt 0 0 ∷ [])) choose .reply) ≡ 0
+unfolding answers noted
+chosen-tier = refl
+
+chosen-pins : says (opensAt 0 8 ∷ opensAt 1 16 ∷ []) choose ≡ 1
+unfolding answers noted
+chosen-pins = refl
+
+chosen-margin : numberOf (step (run (freshRecord t) (opensAt 0 0 ∷ [])) choose .reply) ≡ 0
+unfolding answers noted
+chosen-margin = refl
+
+-- ---- rests: full 132 with 100 proven, and a link that carries just the sizes up to 131
+rests-thirty : Near 131 132 100
+rests-thirty = (omega arith, inr (omega arith))
