@@ -1,5 +1,5 @@
--- What the C functions of the choice reply: rivals from bytes, 13 where these are not as many as they must be, then the
--- choice's own numbers and values.
+-- What the C functions of the choice reply: rivals from bytes, 13 where these are not as many as they must be, then the choice's own
+-- numbers and values.
 use Prim.Native.Nat.{ℕ, zero, suc}
 use mathlib.Core.List.{List, [], _∷_}
 use mathlib.Core.Bool.{Bool, cond}

@@ -1,5 +1,4 @@
--- What the C functions reply where a call can be refused: document 01's number, 0 if accepted, and the value, 0 if
--- refused.
+-- What the C functions reply where a call can be refused: document 01's number, 0 if accepted, and the value, 0 if refused.
 use Prim.Native.Nat.{ℕ}
 use mathlib.Core.Bool.{Bool, cond}
 use Rattle.base.specs.Limits.{isOverlong, isUndersize, isEndless}

@@ -1,5 +1,4 @@
-// Every function that C or Rust calls: numbers and lent bytes. Nothing is required of the caller; a call outside the
-// limits is refused.
+// Every function that C or Rust calls: numbers and lent bytes. Nothing is required of the caller; a call outside the limits is refused.
 ghost use mathlib.Core.Path.{_≡_};
 ghost use lib.ListN.{length};
 ghost use lib.Ieee.{binary64};

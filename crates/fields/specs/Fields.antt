@@ -1,6 +1,5 @@
--- Rivals from bytes, for the host that runs the Rust's choice beside ours: twelve numbers of eight bytes for each:
--- held, index, scored, score, timed, RTT, steadied, steady, based, base RTT, tier, marks (bit 0 preferred, 1 pinned, 2
--- fits, 4 and 5 the medium).
+-- Rivals from bytes, for the host that runs the Rust's choice beside ours: twelve numbers of eight bytes for each: held, index, scored,
+-- score, timed, RTT, steadied, steady, based, base RTT, tier, marks (bit 0 preferred, 1 pinned, 2 fits, 4 and 5 the medium).
 use Prim.Native.Nat.{ℕ, zero, suc, _/_, _%_}
 use mathlib.Core.List.{List, [], _∷_}
 use mathlib.Core.Bool.{Bool, cond}

@@ -1,5 +1,5 @@
--- What is true of every choice: the chosen one is a held rival, pinned if any is, of the highest tier of those, and
--- fitting if any of these fits; and one is chosen exactly if the field is not empty.
+-- What is true of every choice: the chosen one is a held rival, pinned if any is, of the highest tier of those, and fitting if any of
+-- these fits; and one is chosen exactly if the field is not empty.
 -- Assumes nothing.
 use Prim.Native.Nat.{ℕ, zero, suc, _+_, max, _<_, _≤_}
 use mathlib.Core.Path.{_≡_, refl, ap, sym, _∙_}
@@ -310,8 +310,7 @@ accepted l margin n e g =
     (λ p. g p (sym (ap (λ (b : Bool). cond (not b) (chosen.Refused Index) (slotOf (pickedOf l margin))) p) ∙ d))
     (λ p. never {t = false} (ap isSlot (sym (ap (λ (b : Bool). cond (not b) (chosen.Refused Index) (slotOf (pickedOf l margin))) p) ∙ d)) refl))
 
--- at the slot that `choose` answers stands a held rival, pinned if any is, of the highest tier of those, fitting if any
--- of these fits
+-- at the slot that `choose` answers stands a held rival, pinned if any is, of the highest tier of those, fitting if any of these fits
 pub chosen-taken : (l : List Rival) (margin : Float) (n : ℕ) → chooseOf l margin ≡ chosen.Slot n → Taken l (getD l n noRival)
 chosen-taken l margin n e =
     accepted l margin n e

@@ -1,5 +1,4 @@
--- Document 01's number and value for each case of each answer: the refusal number, 0 if accepted; a refusal has value
--- 0.
+-- Document 01's number and value for each case of each answer: the refusal number, 0 if accepted; a refusal has value 0.
 use Prim.Native.Nat.{ℕ}
 use Rattle.base.specs.Refusals.{refusalNumber}
 use Rattle.select.specs.declared.types.Chosen.{Chosen}

@@ -1,5 +1,4 @@
--- The largest frame that a path carries (the Rust's `carried` and `heeded`, whose bodies are the definition), with the
--- refusal 5.
+-- The largest frame that a path carries (the Rust's `carried` and `heeded`, whose bodies are the definition), with the refusal 5.
 use Prim.Native.Nat.{ℕ, _+_, min}
 use mathlib.Core.Bool.{Bool, not, cond}
 use Rattle.base.specs.Limits.{isOverlong}

@@ -1,7 +1,7 @@
--- The choice (document 01, "Choice"): "If any is pinned, only pinned; then the highest tier (0 takes part); then the
--- fitting, if any. If one has a score: least score, then index, by totalOrder; the first preferred one with score <=
--- best × margin replaces it; then a quicker medium so near (preferred ones only, if one was picked), by medium, score,
--- index. With no score: known RTT first, then RTT, index."
+-- The choice (document 01, "Choice"): "If any is pinned, only pinned; then the highest tier (0 takes part); then the fitting, if any.
+-- If one has a score: least score, then index, by totalOrder; the first preferred one with score <= best × margin replaces it; then a
+-- quicker medium so near (preferred ones only, if one was picked), by medium, score, index. With no score: known RTT first, then RTT,
+-- index."
 use Prim.Native.Nat.{ℕ, max}
 use mathlib.Core.Bool.{Bool, not, cond}
 use mathlib.Core.List.{List, map, foldl}

@@ -1,5 +1,5 @@
--- Roles and media (document 01, "Choice": "Wired, wireless, BLE is the speed order; unknown has none"; the tiers are
--- the Rust's `tier`).
+-- Roles and media (document 01, "Choice": "Wired, wireless, BLE is the speed order; unknown has none"; the tiers are the Rust's
+-- `tier`).
 use Prim.Native.Nat.{ℕ}
 use mathlib.Core.Bool.{Bool, _&&_}
 use lib.Dec.{ltb}

@@ -1,5 +1,5 @@
--- Rivals and their orders (document 01, "Choice": "least score, then index, by totalOrder"; "by medium, score, index";
--- "known RTT first, then RTT, index"), and what the refusals 6 and 12 ask of a field of given rivals.
+-- Rivals and their orders (document 01, "Choice": "least score, then index, by totalOrder"; "by medium, score, index"; "known RTT
+-- first, then RTT, index"), and what the refusals 6 and 12 ask of a field of given rivals.
 use Prim.Native.Nat.{ℕ, suc}
 use mathlib.Core.Bool.{Bool, true, false, not, cond, _&&_, _||_, Bool·beq}
 use mathlib.Core.List.{List, [], _∷_}

@@ -23,8 +23,7 @@ fn limit(best: Rival, margin: f64) -> f64
     best.score * margin
 }
 
-// A rival near the best over a quicker medium than that of `pick`, preferred ones only where `only` says so, else
-// `pick`.
+// A rival near the best over a quicker medium than that of `pick`, preferred ones only where `only` says so, else `pick`.
 fn replaced(
     field: [Rival; PATH_MAX_PER_PEER],
     g: Gate,

@@ -22,8 +22,8 @@ pub enum Role {
     Preferred,
 }
 
-// A path that a choice may take, in its place of the field; where `held` is false there is none. Of score, steady, rtt
-// and base the mark (scored, steadied, timed, based) says whether there is one.
+// A path that a choice may take, in its place of the field; where `held` is false there is none. Of score, steady, rtt and base the
+// mark (scored, steadied, timed, based) says whether there is one.
 pub struct Rival {
     pub score: f64,
     pub steady: f64,
@@ -87,16 +87,16 @@ pub struct Gate {
     pub fit: bool,
 }
 
-// What a test over the field asks of a rival: a duration that is too long; a pin; in the highest tier that the pins
-// leave, that it fits.
+// What a test over the field asks of a rival: a duration that is too long; a pin; in the highest tier that the pins leave, that it
+// fits.
 pub enum Test {
     Long,
     Pinned,
     Fits(bool, u8),
 }
 
-// What a scan looks for among the ranked: the scored; the preferred near a limit; those near a limit over a quicker
-// medium, preferred ones only where one was picked; all, by their round trips.
+// What a scan looks for among the ranked: the scored; the preferred near a limit; those near a limit over a quicker medium, preferred
+// ones only where one was picked; all, by their round trips.
 pub enum Want {
     Scored(Gate),
     Preferred(Gate, f64),
@@ -137,8 +137,7 @@ pub enum SizeAnswer {
     Refused(Refusal),
 }
 
-// The hold on a link's cost after a change of active path: the cost from before, the instant of the change, and the
-// reports owed.
+// The hold on a link's cost after a change of active path: the cost from before, the instant of the change, and the reports owed.
 pub struct Hold {
     pub cost: f64,
     pub at: u64,

@@ -1,5 +1,4 @@
--- `fields::float_of` meets its contract: a pattern is a NaN's where its lower 63 bits are above an infinity's
--- (`nanBits-above`).
+-- `fields::float_of` meets its contract: a pattern is a NaN's where its lower 63 bits are above an infinity's (`nanBits-above`).
 -- Assumes nothing.
 use mathlib.Core.Path.{_≡_, refl, sym, _∙_, subst}
 use mathlib.Core.Bool.{Bool, true, false, not, false≢true}
