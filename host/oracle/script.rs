@@ -40,7 +40,7 @@ pub(super) fn length(word: u64) -> Result<usize, u64> {
 }
 
 /// A full or proved length: 5 below 27 too.
-fn whole(word: u64) -> Result<usize, u64> {
+pub(super) fn whole(word: u64) -> Result<usize, u64> {
     length(word).and_then(|len| if len < 27 { Err(5) } else { Ok(len) })
 }
 
