@@ -1,0 +1,134 @@
+-- The record, one event on it, and a list of events (document 01, "Peer record": "each event gets the record that the last one returned
+-- or, refused, left").
+use Prim.Native.Nat.{ℕ, suc, _^_}
+use mathlib.Core.Bool.{Bool, true, false, not, _&&_}
+use mathlib.Core.List.{List, [], _∷_}
+use lib.Dec.{ltb}
+use lib.Ieee.{Float, nan, inf, fin, binary64, ofBits, le}
+use lib.ListN.{getD, set, replicate}
+use Rattle.base.specs.Seq.{pick}
+use Rattle.base.specs.declared.types.Refusal.the-variants as refusal
+use Rattle.base.specs.declared.types.MaybeTime.{MaybeTime}
+use Rattle.base.specs.declared.types.MaybeTime.the-variants as time
+use Rattle.rtt.specs.Spans.{baseRtt}
+use Rattle.scores.specs.Scores.{pathScore, pathSteady}
+use Rattle.scores.specs.declared.MaybeScore.{MaybeScore}
+use Rattle.scores.specs.declared.MaybeScore.the-variants as score
+use Rattle.select.specs.Media.{tierOf}
+use Rattle.select.specs.Choice.{pickedOf}
+use Rattle.select.specs.declared.types.Rival.{Rival}
+use Rattle.select.specs.declared.types.MaybeRival.{MaybeRival}
+use Rattle.select.specs.declared.types.MaybeRival.the-variants as rival
+use Rattle.rules.specs.Event.{Choose, is, numberOf, valueOf}
+use Rattle.rules.specs.Rules.{emptySlot, onSlot}
+use Rattle.rules.specs.declared.types.Settings.{Settings}
+use Rattle.rules.specs.declared.types.Event.{Event}
+use Rattle.rules.specs.declared.types.Reply.{Reply}
+use Rattle.rules.specs.declared.types.Reply.the-variants as reply
+use Rattle.rules.specs.declared.types.Slot.{Slot}
+use Rattle.rules.specs.declared.types.Record.{Record}
+use Rattle.rules.specs.declared.types.Turn.{Turn}
+use Rattle.rules.specs.declared.types.Stepped.{Stepped}
+
+-- "Settings: cap, gap, window, horizon; with one of 2^62 or more, no record is made (6)"
+abbrev pub allowed : Settings → Bool
+allowed t = ltb (t .cap) (2 ^ 62) && ltb (t .gap) (2 ^ 62) && ltb (t .window) (2 ^ 62) && ltb (t .horizon) (2 ^ 62)
+
+-- eight empty slots
+abbrev pub freshRecord : Settings → Record
+freshRecord t = record { settings = t; slots = replicate 8 emptySlot }
+
+unfoldable pub recordOf : Settings → Stepped
+recordOf t = record { next = freshRecord t; reply = pick (allowed t) reply.Nothing (reply.Refused refusal.Duration) }
+
+-- the slot with a number, and the record with that slot changed
+abbrev pub slotAt : Record → ℕ → Slot
+slotAt r i = getD (r .slots) i emptySlot
+
+abbrev pub put : Record → ℕ → Turn → Stepped
+put r i t = record { next = record { settings = r .settings; slots = set (r .slots) i (t .slot) }; reply = t .reply }
+
+-- ---- choose
+
+abbrev pub scoreIn : MaybeScore → Float
+scoreIn score.None = ofBits binary64 0
+scoreIn (score.Some x) = x
+
+abbrev pub isScored : MaybeScore → Bool
+isScored score.None = false
+isScored (score.Some x) = true
+
+abbrev pub timeIn : MaybeTime → ℕ
+timeIn time.None = 0
+timeIn (time.Some t) = t
+
+abbrev pub isTimed : MaybeTime → Bool
+isTimed time.None = false
+isTimed (time.Some t) = true
+
+-- a slot as a rival, under its number
+abbrev pub rivalOf : ℕ → Slot → Rival
+rivalOf i s =
+    record {
+      score = scoreIn (pathScore (s .path));
+      steady = scoreIn (pathSteady (s .path));
+      rtt = timeIn (s .path .rtts .rtt);
+      base = timeIn (baseRtt (s .path .rtts .spans));
+      index = i;
+      tier = tierOf (s .role);
+      held = s .used;
+      scored = isScored (pathScore (s .path));
+      steadied = isScored (pathSteady (s .path));
+      timed = isTimed (s .path .rtts .rtt);
+      based = isTimed (baseRtt (s .path .rtts .spans));
+      preferred = s .preferred;
+      pinned = s .pinned;
+      fits = s .fits;
+      medium = s .medium;
+    }
+
+-- the slots from number i on
+abbrev pub rivalsFrom : ℕ → List Slot → List Rival
+rivalsFrom i [] = []
+rivalsFrom i (s ∷ l) = rivalOf i s ∷ rivalsFrom (suc i) l
+
+-- "7: margin not finite or below 1"
+abbrev pub isMargin : Float → Bool
+isMargin nan = false
+isMargin (inf s) = false
+isMargin (fin s m e) = le (ofBits binary64 0x3ff0_0000_0000_0000) (fin s m e)
+
+abbrev pub marginOf : Event → Float
+marginOf e = ofBits binary64 (e .span)
+
+-- the slot that the choice takes; "11: no path open"
+abbrev pub choiceReply : MaybeRival → Reply
+choiceReply (rival.Some r) = reply.Chosen (r .index)
+choiceReply rival.None = reply.Refused refusal.NoPath
+
+unfoldable pub choiceOf : Record → Event → Stepped
+choiceOf r e =
+    record { next = r; reply = pick (isMargin (marginOf e)) (choiceReply (pickedOf (rivalsFrom 0 (r .slots)) (marginOf e))) (reply.Refused refusal.Margin) }
+
+-- ---- events
+
+-- one event: "Choose reads no slot"; all others do their work on one
+unfoldable pub step : Record → Event → Stepped
+step r e = pick (is Choose e) (choiceOf r e) (put r (e .slot) (onSlot (r .settings) (slotAt r (e .slot)) e))
+
+-- the record after a list of events
+abbrev pub run : Record → List Event → Record
+run r [] = r
+run r (e ∷ es) = run (step r e .next) es
+
+-- an event with its answer: the refusal number and the value
+pub record Entry : Type 0 where
+  pub event : Event
+  pub number : ℕ
+  pub value : ℕ
+
+-- the events with their answers
+abbrev pub trace : Record → List Event → List Entry
+trace r [] = []
+trace r (e ∷ es) =
+    record { event = e; number = numberOf (step r e .reply); value = valueOf (step r e .reply) } ∷ trace (step r e .next) es
