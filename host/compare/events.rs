@@ -118,7 +118,7 @@ pub const THEMES: [Theme; 10] = [
         slots: 2,
         steps: &[0, 1, 2, SECOND],
         draws: &[
-            u32::MAX, 0xffff_fffe, 0xffff_fffa, 0xffff_fff0, 0x7fff_ffff, 0x7fff_fff8, 0, 1,
+            u32::MAX, 0xffff_fffe, 0xffff_fffc, 0xffff_fff4, 0x7fff_fffc, 0,
         ],
         ..LIFE
     },
@@ -172,12 +172,12 @@ pub const THEMES: [Theme; 10] = [
     Theme {
         name: "samples",
         seed: 9,
-        kinds: &[(SAMPLE, 60), (FOLD, 6), (CHOOSE, 40), (CLOSE, 1)],
-        slots: 3,
-        steps: &[0, 1, 2, 10],
+        kinds: &[(SAMPLE, 64), (FOLD, 4), (CHOOSE, 30)],
+        slots: 2,
+        steps: &[0, 0, 1, 2, 10],
         starts: &[0, 100, u64::MAX - 100, 1 << 63],
-        times: &[0, 1, 6, 12, 30, 60, 200, (1 << 62) - 1],
-        aimed: 35,
+        times: &[0, 1, 5, 6, 12, 60, 200, (1 << 62) - 1],
+        aimed: 30,
         ..LIFE
     },
     Theme {
@@ -263,7 +263,14 @@ impl<'a> Scene<'a> {
             carries: 27 + (rng.next() % 65_536 >> rng.below(16)),
             trips: [trip, near(13), near(11), trip.wrapping_add(1) % (1 << 62)],
             pins: rng.pick(&[0, 0, 0, 30]),
-            roles: rng.pick(&[&[2_u8][..], &[2, 3], &[1, 2, 3], &[0], &[0, 1], &[0, 1, 2, 3]]),
+            roles: rng.pick(&[
+                &[2_u8][..],
+                &[2, 3],
+                &[1, 2, 3],
+                &[0],
+                &[0, 1],
+                &[0, 1, 2, 3],
+            ]),
             theme,
             rng,
             step,
@@ -388,11 +395,14 @@ impl<'a> Scene<'a> {
     fn lead(&mut self) -> Event {
         let i = self.image.unwrap_or([0; 225]);
         let (next, id, out, lost) = (i[SEEK + 1], i[SEEK + 2], i[SEEK + 3], i[SEEK + 4]);
+        let rests = lost != 0 && lost <= i[PROVEN + 1] + 32;
         let mut e = Event::default();
         if i[PROVEN] == 0 {
             (e.kind, e.len) = (PROVE, self.rng.pick(&[27, 27, 28, 60]));
         } else if lost > 60 && self.rng.percent(3) {
             (e.kind, e.len) = (PROVE, self.rng.near(lost - 32) as u32);
+        } else if out == 0 && (i[PROVEN + 1] >= self.fulls[self.slot] || rests) {
+            return self.start();
         } else if out == 0 {
             self.now = if self.rng.percent(20) {
                 self.rng.near(next)
@@ -405,6 +415,23 @@ impl<'a> Scene<'a> {
             e.acked = self.acked(e.id);
         } else {
             return self.lose(&i);
+        }
+        e
+    }
+
+    /// After a rest: a search from another size, or a path that is opened again.
+    fn start(&mut self) -> Event {
+        let mut e = Event::default();
+        match self.rng.below(4) {
+            0 => e.kind = CLOSE,
+            1 => (e.kind, e.now) = (SEARCH, self.instant()),
+            _ => (e.kind, e.len) = (PROVE, self.rng.pick(&[27, 28, 40, 100])),
+        }
+        if e.kind == PROVE && self.rng.percent(30) {
+            e = Event {
+                kind: FRESH,
+                ..Event::default()
+            };
         }
         e
     }

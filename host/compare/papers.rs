@@ -32,6 +32,7 @@ pub fn lists() -> Vec<List> {
         ("media", [SECOND; 4], media()),
         ("tiers and pins", [SECOND; 4], tiers()),
         ("window", [5, 5, 5, 600], window()),
+        ("32 samples", [0, 0, LONG - 1, 5], samples()),
         ("long settings", [LONG - 1; 4], long()),
     ];
     all.drain(..)
@@ -166,9 +167,22 @@ fn orders() -> Vec<Event> {
     all.extend([fold(0, 2), fold(0, 255), fold(0, 1), poll(0, 255)]);
     all.extend([judge(0, LONG), judge(0, LONG - 1), sample(0, 0, u64::MAX)]);
     all.extend((0..8).map(|_| probe(0, 5, 7, 65_535)));
-    all.extend([probe(0, 5, 7, 65_536), probe(0, 5, 7, 0), probe(0, LONG, 7, 0)]);
-    all.extend([answer(0, 5, 65_536), answer(0, 5, 65_535), data(0, 65_536), data(0, 65_535)]);
-    all.extend([choose(f64::NAN), choose(f64::INFINITY), choose(0.9999999999999999)]);
+    all.extend([
+        probe(0, 5, 7, 65_536),
+        probe(0, 5, 7, 0),
+        probe(0, LONG, 7, 0),
+    ]);
+    all.extend([
+        answer(0, 5, 65_536),
+        answer(0, 5, 65_535),
+        data(0, 65_536),
+        data(0, 65_535),
+    ]);
+    all.extend([
+        choose(f64::NAN),
+        choose(f64::INFINITY),
+        choose(0.9999999999999999),
+    ]);
     all.extend([bare(CLOSE, 0), choose(f64::MAX), choose(-1.0), choose(0.0)]);
     all
 }
@@ -177,7 +191,12 @@ fn orders() -> Vec<Event> {
 fn eight() -> Vec<Event> {
     let mut all = vec![open(0, 100, 0)];
     all.extend((0..9).map(|n| probe(n, 5, 7, 0)));
-    all.extend([answer(5, 9, 0), answer(5, 9, 0), answer(5, 7, 0), probe(9, 20, 0, 0)]);
+    all.extend([
+        answer(5, 9, 0),
+        answer(5, 9, 0),
+        answer(5, 7, 0),
+        probe(9, 20, 0, 0),
+    ]);
     all.extend([bare(SWEEP, 0), bare(SWEEP, 0), poll(99, 0)]);
     all.extend((7..17).map(|id| answer(5, id, 0)));
     all
@@ -188,7 +207,12 @@ fn holes() -> Vec<Event> {
     let mut all = vec![open(0, 100, 0)];
     all.extend((0..4).map(|_| probe(0, 1, 10, 0)));
     all.extend([poll(1, 0), answer(1, 11, 0), probe(1, 2, 0, 0), poll(2, 0)]);
-    all.extend([answer(2, 10, 0), answer(2, 12, 0), answer(2, 13, 0), answer(2, 14, 0)]);
+    all.extend([
+        answer(2, 10, 0),
+        answer(2, 12, 0),
+        answer(2, 13, 0),
+        answer(2, 14, 0),
+    ]);
     all.extend((0..8).map(|_| probe(2, 3, 0, 0)));
     all.push(poll(3, 0));
     all.extend((15..23).map(|id| answer(3, id, 0)));
@@ -197,15 +221,38 @@ fn holes() -> Vec<Event> {
 
 /// Data after the probe defers it to its cap deadline, and no further.
 fn deferral() -> Vec<Event> {
-    let mut all = vec![open(0, 100, 0), probe(0, 5, 7, 0), probe(1, 4, 7, 0), data(1, 0)];
-    all.extend([poll(3, 0), poll(4, 1), poll(4, 0), poll(9, 0), poll(10, 1), poll(10, 0)]);
-    all.extend([answer(10, 7, 0), answer(10, 8, 0), probe(20, 25, 0, 0), data(21, 0)]);
+    let mut all = vec![
+        open(0, 100, 0),
+        probe(0, 5, 7, 0),
+        probe(1, 4, 7, 0),
+        data(1, 0),
+    ];
+    all.extend([
+        poll(3, 0),
+        poll(4, 1),
+        poll(4, 0),
+        poll(9, 0),
+        poll(10, 1),
+        poll(10, 0),
+    ]);
+    all.extend([
+        answer(10, 7, 0),
+        answer(10, 8, 0),
+        probe(20, 25, 0, 0),
+        data(21, 0),
+    ]);
     all.extend([poll(29, 0), data(30, 0), poll(30, 0), answer(30, 9, 0)]);
     all
 }
 
 fn last_data() -> Vec<Event> {
-    vec![open(0, 100, 0), probe(5, 6, 7, 0), data(7, 0), data(3, 0), poll(6, 0)]
+    vec![
+        open(0, 100, 0),
+        probe(5, 6, 7, 0),
+        data(7, 0),
+        data(3, 0),
+        poll(6, 0),
+    ]
 }
 
 fn overdue() -> Vec<Event> {
@@ -222,7 +269,12 @@ fn thawed() -> Vec<Event> {
 
 /// An identifier is answered in time once since its open.
 fn again() -> Vec<Event> {
-    let one = [open(0, 100, 0), probe(0, 9, 7, 0), answer(0, 7, 0), bare(CLOSE, 0)];
+    let one = [
+        open(0, 100, 0),
+        probe(0, 9, 7, 0),
+        answer(0, 7, 0),
+        bare(CLOSE, 0),
+    ];
     one.repeat(2)
 }
 
@@ -256,8 +308,18 @@ fn search(full: u32, carries: u32) -> Vec<Event> {
 fn rest() -> Vec<Event> {
     let mut all = vec![open(0, 1000, 0), prove(27), seek(0, 1), probe(0, 9, 1, 0)];
     all.extend([answer(0, 2, 0), judge(0, 0), prove(968), seek(1, 1)]);
-    all.extend([seek(601 * SECOND, 1), prove(967), seek(1, 1), answer(1, 3, 982)]);
-    all.extend([seek(2, 1), seek(2 + 600 * SECOND, 1), bare(FRESH, 0), seek(3, 1)]);
+    all.extend([
+        seek(601 * SECOND, 1),
+        prove(967),
+        seek(1, 1),
+        answer(1, 3, 982),
+    ]);
+    all.extend([
+        seek(2, 1),
+        seek(2 + 600 * SECOND, 1),
+        bare(FRESH, 0),
+        seek(3, 1),
+    ]);
     all
 }
 
@@ -265,7 +327,13 @@ fn rest() -> Vec<Event> {
 fn figures() -> Vec<Event> {
     let lost = |full: u32| {
         let first = [open(0, full, 0), prove(100), seek(0, 1), probe(0, 9, 1, 0)];
-        let then = [answer(0, 2, 0), judge(0, 0), seek(0, 1), answer(0, 3, 116), seek(0, 1)];
+        let then = [
+            answer(0, 2, 0),
+            judge(0, 0),
+            seek(0, 1),
+            answer(0, 3, 116),
+            seek(0, 1),
+        ];
         first.into_iter().chain(then).chain([bare(CLOSE, 0)])
     };
     lost(132).chain(lost(133)).collect()
@@ -274,10 +342,25 @@ fn figures() -> Vec<Event> {
 /// Wired at 10 ms before BLE at 5 ms as long as it is near; an unknown medium has no place.
 fn media() -> Vec<Event> {
     let mut all = vec![open(0, 100, 1), open(1, 100, 0), sample(0, 0, 10 * MS)];
-    all.extend([choose(1.0), sample(1, 0, 5 * MS), choose(100.0), choose(1.0)]);
-    all.extend([open(2, 100, 2), sample(2, 0, 5 * MS), choose(1.0), choose(1.05)]);
+    all.extend([
+        choose(1.0),
+        sample(1, 0, 5 * MS),
+        choose(100.0),
+        choose(1.0),
+    ]);
+    all.extend([
+        open(2, 100, 2),
+        sample(2, 0, 5 * MS),
+        choose(1.0),
+        choose(1.05),
+    ]);
     all.extend([open(3, 100, 3), sample(3, 0, 0), choose(1.0), choose(1.1)]);
-    all.extend([open(4, 100, 0x40), sample(4, 0, 6 * MS), choose(1.0), choose(1.1)]);
+    all.extend([
+        open(4, 100, 0x40),
+        sample(4, 0, 6 * MS),
+        choose(1.0),
+        choose(1.1),
+    ]);
     all.extend([fold(4, 0), choose(1.1), choose(2.0)]);
     all
 }
@@ -285,7 +368,12 @@ fn media() -> Vec<Event> {
 /// Pinned first, then the highest tier, 0 taking part, then the fitting.
 fn tiers() -> Vec<Event> {
     let mut all = vec![open(0, 100, 0x0c), open(1, 100, 0), choose(1.0)];
-    all.extend([open(2, 100, 0x10), choose(1.0), open(3, 100, 0x34), choose(1.0)]);
+    all.extend([
+        open(2, 100, 0x10),
+        choose(1.0),
+        open(3, 100, 0x34),
+        choose(1.0),
+    ]);
     all.extend([open(4, 100, 0x14), choose(1.0), bare(CLOSE, 3), choose(1.0)]);
     all.extend([bare(CLOSE, 2), bare(CLOSE, 4), bare(CLOSE, 0), choose(1.0)]);
     all.extend([open(5, 100, 0x20), choose(1.0), bare(CLOSE, 5), choose(1.0)]);
@@ -297,17 +385,72 @@ fn tiers() -> Vec<Event> {
 fn window() -> Vec<Event> {
     let mut all = vec![open(0, 100, 0), open(1, 100, 0), sample(0, 0, 10 * MS)];
     all.extend([sample(1, 0, 50 * MS), sample(1, 1, 5 * MS), choose(1.0)]);
-    all.extend([sample(1, 6, 50 * MS), choose(1.0), sample(1, 7, 50 * MS), choose(1.0)]);
-    all.extend([sample(1, 3, 5 * MS), choose(1.0), sample(1, 9, 50 * MS), choose(1.0)]);
+    all.extend([
+        sample(1, 6, 50 * MS),
+        choose(1.0),
+        sample(1, 7, 50 * MS),
+        choose(1.0),
+    ]);
+    all.extend([
+        sample(1, 3, 5 * MS),
+        choose(1.0),
+        sample(1, 9, 50 * MS),
+        choose(1.0),
+    ]);
+    all
+}
+
+/// A 33rd sample takes the place of the oldest, the first of equals, wherever that stands.
+fn samples() -> Vec<Event> {
+    let mut all = vec![open(0, 100, 0), open(1, 100, 0), sample(1, 0, 20 * MS)];
+    all.extend((0..32).map(|n| match n {
+        5 => sample(0, 50, 10 * MS),
+        9 => sample(0, 50, 15 * MS),
+        _ => sample(0, 100 + n, 30 * MS),
+    }));
+    all.extend([
+        choose(1.0),
+        sample(0, 200, 30 * MS),
+        choose(1.0),
+        fold(0, 0),
+        choose(1.0),
+    ]);
+    all.extend([
+        fold(1, 0),
+        choose(1.0),
+        sample(0, 7, 30 * MS),
+        choose(1.0),
+        fold(1, 1),
+    ]);
+    all.extend([
+        sample(0, 8, 16 * MS),
+        choose(1.0),
+        sample(0, 9, 30 * MS),
+        choose(1.0),
+    ]);
     all
 }
 
 /// Durations just below 2^62, and deadlines past the last instant.
 fn long() -> Vec<Event> {
     let end = u64::MAX;
-    let mut all = vec![open(0, 1000, 0), probe(end - 10, 0, 7, 0), data(end, 0), poll(end, 0)];
-    all.extend([poll(end, 1), answer(end, 7, 0), prove(27), seek(end - 10, 0)]);
-    all.extend([probe(end, end, 0, 0), answer(0, 9, 0), judge(end - 1, LONG - 1)]);
+    let mut all = vec![
+        open(0, 1000, 0),
+        probe(end - 10, 0, 7, 0),
+        data(end, 0),
+        poll(end, 0),
+    ];
+    all.extend([
+        poll(end, 1),
+        answer(end, 7, 0),
+        prove(27),
+        seek(end - 10, 0),
+    ]);
+    all.extend([
+        probe(end, end, 0, 0),
+        answer(0, 9, 0),
+        judge(end - 1, LONG - 1),
+    ]);
     all.extend([judge(end, LONG - 1), seek(end - 3, 0), seek(end, 0)]);
     all
 }

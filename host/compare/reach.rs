@@ -17,6 +17,9 @@ pub struct Reach {
     kinds: BTreeMap<u8, (u64, u64)>,
     numbers: BTreeMap<u64, u64>,
     seen: BTreeMap<&'static str, u64>,
+    /// The instant of this list's event before, and the next tries that clearings set, by slot.
+    now: u64,
+    tries: [Option<u64>; SLOTS],
 }
 
 /// Images before and after an event on its slot.
@@ -33,7 +36,10 @@ fn held(image: &Image, from: usize, to: usize) -> Vec<(u64, u64)> {
 
 /// How many marked places there are.
 fn marked(image: &Image, from: usize, to: usize, width: usize) -> usize {
-    (from..to).step_by(width).filter(|&at| image[at] == 1).count()
+    (from..to)
+        .step_by(width)
+        .filter(|&at| image[at] == 1)
+        .count()
 }
 
 /// A free place of the late list behind a used one.
@@ -47,6 +53,7 @@ impl Reach {
     /// Count a list.
     pub fn list(&mut self, events: usize) {
         self.lists += 1;
+        self.tries = [None; SLOTS];
         self.long += usize::from(events >= 60);
         self.events += events;
     }
@@ -66,12 +73,23 @@ impl Reach {
         if slot >= SLOTS {
             return;
         }
+        self.clock(e);
         if let (Some(before), Some(after)) = (before.image(slot), after.image(slot)) {
             let change = Change { before, after };
             if reply.0 == 0 {
                 self.path(e, reply, &change);
             }
             self.refused(e, reply, &change);
+        }
+    }
+
+    /// Where the clock stands, of the kinds that have one.
+    fn clock(&mut self, e: &Event) {
+        if matches!(e.kind, 2..=5 | 8..=10) {
+            self.see("clock that went back", e.now < self.now);
+            self.see("clock below 100", e.now < 100);
+            self.see("clock from 2^64 - 100 on", e.now >= u64::MAX - 99);
+            self.now = e.now;
         }
     }
 
@@ -84,9 +102,15 @@ impl Reach {
         let (i, j) = (&c.before, &c.after);
         let ring = held(j, RING, LATE);
         self.see("eight waiting", ring.len() == 8);
-        self.see("identifier 0 after 2^32 - 1", i[IDS + 1] == u32::MAX.into() && j[IDS + 1] == 0);
+        self.see(
+            "identifier 0 after 2^32 - 1",
+            i[IDS + 1] == u32::MAX.into() && j[IDS + 1] == 0,
+        );
         self.see("`since` held", j[IDS + 6] == 1);
         self.see("epoch held", j[IDS + 4] == 1);
+        if matches!(e.kind, ANSWER | JUDGE) && value % 2 == 1 && j[SEEK + 3..SEEK + 5] == [0, 0] {
+            self.tries[usize::from(e.slot)] = (i[SEEK + 3] != 0).then_some(j[SEEK + 1]);
+        }
         match e.kind {
             ANSWER => self.answer(value, c),
             POLL => {
@@ -103,22 +127,38 @@ impl Reach {
             SWEEP => self.see("sweep of five or more", value > 4),
             JUDGE => {
                 self.see("search probe lost", value == 1);
-                self.see("search cleared by judge", i[SEEK + 4] + i[SEEK + 3] > 0 && value == 1 && j[SEEK + 4] == 0);
+                self.see(
+                    "search cleared by judge",
+                    i[SEEK + 4] + i[SEEK + 3] > 0 && value == 1 && j[SEEK + 4] == 0,
+                );
                 self.see("judge with nothing out", i[SEEK + 3] == 0);
             }
             SEARCH => {
                 self.see("search halved", i[SEEK + 4] != 0);
-                self.see("search from an instant held", i[SEEK] == 1);
+                self.see("search at or after a next try", i[SEEK] == 1);
+                let raised = self.tries[usize::from(e.slot)];
+                self.see("search 600 s after a clearing", raised == Some(i[SEEK + 1]));
             }
             SAMPLE => {
                 let count = |image: &Image| marked(image, SAMPLES, SPANS, 3);
                 self.see("sample that drops others", count(j) < count(i));
-                self.see("sample that replaces one of 32", count(i) == 32 && count(j) == 32);
+                self.see(
+                    "sample that replaces one of 32",
+                    count(i) == 32 && count(j) == 32,
+                );
                 let count = |image: &Image| marked(image, SPANS, SPANS + 32, 4);
-                self.see("span dropped", count(j) < count(i) + 1 && i[SPANS..SPANS + 32] != j[SPANS..SPANS + 32] && count(j) <= count(i));
+                self.see(
+                    "span dropped",
+                    count(j) < count(i) + 1
+                        && i[SPANS..SPANS + 32] != j[SPANS..SPANS + 32]
+                        && count(j) <= count(i),
+                );
                 self.see("eight spans", count(j) == 8);
             }
-            HEAR => self.see("data instant that goes back", i[DATA] == 1 && e.now < i[DATA + 1]),
+            HEAR => self.see(
+                "data instant that goes back",
+                i[DATA] == 1 && e.now < i[DATA + 1],
+            ),
             _ => {}
         }
     }
@@ -131,19 +171,37 @@ impl Reach {
         self.see("search answer", value == 3);
         let proven = i[81] == 1 && j[82] > i[82];
         self.see("search answer that proves", value == 3 && proven);
-        self.see("search answer that loses", value == 3 && j[SEEK + 4] != i[SEEK + 4] && j[SEEK + 4] != 0);
-        self.see("search cleared by answer", value == 3 && i[SEEK + 4] != 0 && j[SEEK + 4] == 0);
-        self.see("answer that leaves `answered`", value == 1 && i[IDS + 2..IDS + 4] == j[IDS + 2..IDS + 4]);
+        self.see(
+            "search answer that loses",
+            value == 3 && j[SEEK + 4] != i[SEEK + 4] && j[SEEK + 4] != 0,
+        );
+        self.see(
+            "search cleared by answer",
+            value == 3 && i[SEEK + 4] != 0 && j[SEEK + 4] == 0,
+        );
+        self.see(
+            "answer that leaves `answered`",
+            value == 1 && i[IDS + 2..IDS + 4] == j[IDS + 2..IDS + 4],
+        );
     }
 
     /// Refusals that show a rule, and clocks.
     fn refused(&mut self, e: &Event, (number, _): Reply, c: &Change) {
         let at = c.before[SEEK + 1];
         let waits = c.before[SEEK] == 1 && c.before[SEEK + 3] == 0 && e.now < at;
-        self.see("search refused before the next try", number == 10 && e.kind == SEARCH && waits);
-        self.see("search refused one before it", number == 10 && e.kind == SEARCH && waits && e.now + 1 == at);
+        self.see(
+            "search refused before the next try",
+            number == 10 && e.kind == SEARCH && waits,
+        );
+        self.see(
+            "search refused one before it",
+            number == 10 && e.kind == SEARCH && waits && e.now + 1 == at,
+        );
         let last = c.before[IDS + 1].wrapping_sub(e.id.into()) as u32;
-        self.see("answer to an identifier that was given and is gone", number == 9 && last > 0 && last < 100);
+        self.see(
+            "answer to an identifier that was given and is gone",
+            number == 9 && last > 0 && last < 100,
+        );
     }
 
     /// What a choice hangs on: it is another without it.
@@ -159,13 +217,20 @@ impl Reach {
             let moved = before.without(mark).event(e) != reply;
             self.see(name, moved);
         }
-        let scored = |slot: usize| before.image(slot).is_some_and(|i| marked(&i, SAMPLES, SPANS, 3) > 0);
+        let scored = |slot: usize| {
+            before
+                .image(slot)
+                .is_some_and(|i| marked(&i, SAMPLES, SPANS, 3) > 0)
+        };
         self.see("choice with no score", !(0..SLOTS).any(scored));
     }
 
     /// Print all of it to standard error.
     pub fn print(&self) {
-        eprintln!("{} lists, {} of 60 events and more, {} events", self.lists, self.long, self.events);
+        eprintln!(
+            "{} lists, {} of 60 events and more, {} events",
+            self.lists, self.long, self.events
+        );
         for (kind, (accepted, refused)) in &self.kinds {
             eprintln!("  kind {kind}: {accepted} accepted, {refused} refused");
         }

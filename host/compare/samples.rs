@@ -30,7 +30,12 @@ fn main() -> std::io::Result<()> {
             samples += &sample(first + n, list, &answers(list, &mut reach));
         }
         let numbers = first..first + theme.len();
-        write(&folder, "specs", name, &specs(name, &samples, numbers.clone()))?;
+        write(
+            &folder,
+            "specs",
+            name,
+            &specs(name, &samples, numbers.clone()),
+        )?;
         write(&folder, "proofs", name, &proofs(name, numbers))?;
         first += theme.len();
     }
@@ -118,6 +123,7 @@ fn proofs(name: &str, numbers: std::ops::Range<usize>) -> String {
          -- The lists of the theme \"{name}\", computed.\n\
          -- Assumes nothing.\n\
          use mathlib.Core.Path.{{refl}}\n\
+         use Rattle.total.specs.Values.{{negative}}\n\
          use Rattle.rules.specs.Answers.{{Right, AllRight, answers}}\n\
          use Rattle.samples.specs.{}.{{{name}, {}}}\n",
         title(name),
@@ -131,7 +137,7 @@ fn proofs(name: &str, numbers: std::ops::Range<usize>) -> String {
         let _ = write!(
             text,
             "\nright{n} : Right sample{n}\n\
-             unfolding answers sample{n}\n\
+             unfolding answers negative sample{n}\n\
              right{n} = refl\n"
         );
     }

@@ -2,116 +2,117 @@
 -- The lists of the theme "choice", computed.
 -- Assumes nothing.
 use mathlib.Core.Path.{refl}
+use Rattle.total.specs.Values.{negative}
 use Rattle.rules.specs.Answers.{Right, AllRight, answers}
-use Rattle.samples.specs.Choice.{choice, sample208, sample209, sample210, sample211, sample212, sample213, sample214, sample215, sample216, sample217, sample218, sample219, sample220, sample221, sample222, sample223, sample224, sample225, sample226, sample227, sample228, sample229, sample230, sample231, sample232, sample233, sample234}
-
-right208 : Right sample208
-unfolding answers sample208
-right208 = refl
+use Rattle.samples.specs.Choice.{choice, sample209, sample210, sample211, sample212, sample213, sample214, sample215, sample216, sample217, sample218, sample219, sample220, sample221, sample222, sample223, sample224, sample225, sample226, sample227, sample228, sample229, sample230, sample231, sample232, sample233, sample234, sample235}
 
 right209 : Right sample209
-unfolding answers sample209
+unfolding answers negative sample209
 right209 = refl
 
 right210 : Right sample210
-unfolding answers sample210
+unfolding answers negative sample210
 right210 = refl
 
 right211 : Right sample211
-unfolding answers sample211
+unfolding answers negative sample211
 right211 = refl
 
 right212 : Right sample212
-unfolding answers sample212
+unfolding answers negative sample212
 right212 = refl
 
 right213 : Right sample213
-unfolding answers sample213
+unfolding answers negative sample213
 right213 = refl
 
 right214 : Right sample214
-unfolding answers sample214
+unfolding answers negative sample214
 right214 = refl
 
 right215 : Right sample215
-unfolding answers sample215
+unfolding answers negative sample215
 right215 = refl
 
 right216 : Right sample216
-unfolding answers sample216
+unfolding answers negative sample216
 right216 = refl
 
 right217 : Right sample217
-unfolding answers sample217
+unfolding answers negative sample217
 right217 = refl
 
 right218 : Right sample218
-unfolding answers sample218
+unfolding answers negative sample218
 right218 = refl
 
 right219 : Right sample219
-unfolding answers sample219
+unfolding answers negative sample219
 right219 = refl
 
 right220 : Right sample220
-unfolding answers sample220
+unfolding answers negative sample220
 right220 = refl
 
 right221 : Right sample221
-unfolding answers sample221
+unfolding answers negative sample221
 right221 = refl
 
 right222 : Right sample222
-unfolding answers sample222
+unfolding answers negative sample222
 right222 = refl
 
 right223 : Right sample223
-unfolding answers sample223
+unfolding answers negative sample223
 right223 = refl
 
 right224 : Right sample224
-unfolding answers sample224
+unfolding answers negative sample224
 right224 = refl
 
 right225 : Right sample225
-unfolding answers sample225
+unfolding answers negative sample225
 right225 = refl
 
 right226 : Right sample226
-unfolding answers sample226
+unfolding answers negative sample226
 right226 = refl
 
 right227 : Right sample227
-unfolding answers sample227
+unfolding answers negative sample227
 right227 = refl
 
 right228 : Right sample228
-unfolding answers sample228
+unfolding answers negative sample228
 right228 = refl
 
 right229 : Right sample229
-unfolding answers sample229
+unfolding answers negative sample229
 right229 = refl
 
 right230 : Right sample230
-unfolding answers sample230
+unfolding answers negative sample230
 right230 = refl
 
 right231 : Right sample231
-unfolding answers sample231
+unfolding answers negative sample231
 right231 = refl
 
 right232 : Right sample232
-unfolding answers sample232
+unfolding answers negative sample232
 right232 = refl
 
 right233 : Right sample233
-unfolding answers sample233
+unfolding answers negative sample233
 right233 = refl
 
 right234 : Right sample234
-unfolding answers sample234
+unfolding answers negative sample234
 right234 = refl
 
+right235 : Right sample235
+unfolding answers negative sample235
+right235 = refl
+
 pub right : AllRight choice
-right = (right208, (right209, (right210, (right211, (right212, (right213, (right214, (right215, (right216, (right217, (right218, (right219, (right220, (right221, (right222, (right223, (right224, (right225, (right226, (right227, (right228, (right229, (right230, (right231, (right232, (right233, (right234, tt)))))))))))))))))))))))))))
+right = (right209, (right210, (right211, (right212, (right213, (right214, (right215, (right216, (right217, (right218, (right219, (right220, (right221, (right222, (right223, (right224, (right225, (right226, (right227, (right228, (right229, (right230, (right231, (right232, (right233, (right234, (right235, tt)))))))))))))))))))))))))))

@@ -2,116 +2,117 @@
 -- The lists of the theme "clocks", computed.
 -- Assumes nothing.
 use mathlib.Core.Path.{refl}
+use Rattle.total.specs.Values.{negative}
 use Rattle.rules.specs.Answers.{Right, AllRight, answers}
-use Rattle.samples.specs.Clocks.{clocks, sample181, sample182, sample183, sample184, sample185, sample186, sample187, sample188, sample189, sample190, sample191, sample192, sample193, sample194, sample195, sample196, sample197, sample198, sample199, sample200, sample201, sample202, sample203, sample204, sample205, sample206, sample207}
-
-right181 : Right sample181
-unfolding answers sample181
-right181 = refl
+use Rattle.samples.specs.Clocks.{clocks, sample182, sample183, sample184, sample185, sample186, sample187, sample188, sample189, sample190, sample191, sample192, sample193, sample194, sample195, sample196, sample197, sample198, sample199, sample200, sample201, sample202, sample203, sample204, sample205, sample206, sample207, sample208}
 
 right182 : Right sample182
-unfolding answers sample182
+unfolding answers negative sample182
 right182 = refl
 
 right183 : Right sample183
-unfolding answers sample183
+unfolding answers negative sample183
 right183 = refl
 
 right184 : Right sample184
-unfolding answers sample184
+unfolding answers negative sample184
 right184 = refl
 
 right185 : Right sample185
-unfolding answers sample185
+unfolding answers negative sample185
 right185 = refl
 
 right186 : Right sample186
-unfolding answers sample186
+unfolding answers negative sample186
 right186 = refl
 
 right187 : Right sample187
-unfolding answers sample187
+unfolding answers negative sample187
 right187 = refl
 
 right188 : Right sample188
-unfolding answers sample188
+unfolding answers negative sample188
 right188 = refl
 
 right189 : Right sample189
-unfolding answers sample189
+unfolding answers negative sample189
 right189 = refl
 
 right190 : Right sample190
-unfolding answers sample190
+unfolding answers negative sample190
 right190 = refl
 
 right191 : Right sample191
-unfolding answers sample191
+unfolding answers negative sample191
 right191 = refl
 
 right192 : Right sample192
-unfolding answers sample192
+unfolding answers negative sample192
 right192 = refl
 
 right193 : Right sample193
-unfolding answers sample193
+unfolding answers negative sample193
 right193 = refl
 
 right194 : Right sample194
-unfolding answers sample194
+unfolding answers negative sample194
 right194 = refl
 
 right195 : Right sample195
-unfolding answers sample195
+unfolding answers negative sample195
 right195 = refl
 
 right196 : Right sample196
-unfolding answers sample196
+unfolding answers negative sample196
 right196 = refl
 
 right197 : Right sample197
-unfolding answers sample197
+unfolding answers negative sample197
 right197 = refl
 
 right198 : Right sample198
-unfolding answers sample198
+unfolding answers negative sample198
 right198 = refl
 
 right199 : Right sample199
-unfolding answers sample199
+unfolding answers negative sample199
 right199 = refl
 
 right200 : Right sample200
-unfolding answers sample200
+unfolding answers negative sample200
 right200 = refl
 
 right201 : Right sample201
-unfolding answers sample201
+unfolding answers negative sample201
 right201 = refl
 
 right202 : Right sample202
-unfolding answers sample202
+unfolding answers negative sample202
 right202 = refl
 
 right203 : Right sample203
-unfolding answers sample203
+unfolding answers negative sample203
 right203 = refl
 
 right204 : Right sample204
-unfolding answers sample204
+unfolding answers negative sample204
 right204 = refl
 
 right205 : Right sample205
-unfolding answers sample205
+unfolding answers negative sample205
 right205 = refl
 
 right206 : Right sample206
-unfolding answers sample206
+unfolding answers negative sample206
 right206 = refl
 
 right207 : Right sample207
-unfolding answers sample207
+unfolding answers negative sample207
 right207 = refl
 
+right208 : Right sample208
+unfolding answers negative sample208
+right208 = refl
+
 pub right : AllRight clocks
-right = (right181, (right182, (right183, (right184, (right185, (right186, (right187, (right188, (right189, (right190, (right191, (right192, (right193, (right194, (right195, (right196, (right197, (right198, (right199, (right200, (right201, (right202, (right203, (right204, (right205, (right206, (right207, tt)))))))))))))))))))))))))))
+right = (right182, (right183, (right184, (right185, (right186, (right187, (right188, (right189, (right190, (right191, (right192, (right193, (right194, (right195, (right196, (right197, (right198, (right199, (right200, (right201, (right202, (right203, (right204, (right205, (right206, (right207, (right208, tt)))))))))))))))))))))))))))

@@ -2,116 +2,117 @@
 -- The lists of the theme "damaged", computed.
 -- Assumes nothing.
 use mathlib.Core.Path.{refl}
+use Rattle.total.specs.Values.{negative}
 use Rattle.rules.specs.Answers.{Right, AllRight, answers}
-use Rattle.samples.specs.Damaged.{damaged, sample262, sample263, sample264, sample265, sample266, sample267, sample268, sample269, sample270, sample271, sample272, sample273, sample274, sample275, sample276, sample277, sample278, sample279, sample280, sample281, sample282, sample283, sample284, sample285, sample286, sample287, sample288}
-
-right262 : Right sample262
-unfolding answers sample262
-right262 = refl
+use Rattle.samples.specs.Damaged.{damaged, sample263, sample264, sample265, sample266, sample267, sample268, sample269, sample270, sample271, sample272, sample273, sample274, sample275, sample276, sample277, sample278, sample279, sample280, sample281, sample282, sample283, sample284, sample285, sample286, sample287, sample288, sample289}
 
 right263 : Right sample263
-unfolding answers sample263
+unfolding answers negative sample263
 right263 = refl
 
 right264 : Right sample264
-unfolding answers sample264
+unfolding answers negative sample264
 right264 = refl
 
 right265 : Right sample265
-unfolding answers sample265
+unfolding answers negative sample265
 right265 = refl
 
 right266 : Right sample266
-unfolding answers sample266
+unfolding answers negative sample266
 right266 = refl
 
 right267 : Right sample267
-unfolding answers sample267
+unfolding answers negative sample267
 right267 = refl
 
 right268 : Right sample268
-unfolding answers sample268
+unfolding answers negative sample268
 right268 = refl
 
 right269 : Right sample269
-unfolding answers sample269
+unfolding answers negative sample269
 right269 = refl
 
 right270 : Right sample270
-unfolding answers sample270
+unfolding answers negative sample270
 right270 = refl
 
 right271 : Right sample271
-unfolding answers sample271
+unfolding answers negative sample271
 right271 = refl
 
 right272 : Right sample272
-unfolding answers sample272
+unfolding answers negative sample272
 right272 = refl
 
 right273 : Right sample273
-unfolding answers sample273
+unfolding answers negative sample273
 right273 = refl
 
 right274 : Right sample274
-unfolding answers sample274
+unfolding answers negative sample274
 right274 = refl
 
 right275 : Right sample275
-unfolding answers sample275
+unfolding answers negative sample275
 right275 = refl
 
 right276 : Right sample276
-unfolding answers sample276
+unfolding answers negative sample276
 right276 = refl
 
 right277 : Right sample277
-unfolding answers sample277
+unfolding answers negative sample277
 right277 = refl
 
 right278 : Right sample278
-unfolding answers sample278
+unfolding answers negative sample278
 right278 = refl
 
 right279 : Right sample279
-unfolding answers sample279
+unfolding answers negative sample279
 right279 = refl
 
 right280 : Right sample280
-unfolding answers sample280
+unfolding answers negative sample280
 right280 = refl
 
 right281 : Right sample281
-unfolding answers sample281
+unfolding answers negative sample281
 right281 = refl
 
 right282 : Right sample282
-unfolding answers sample282
+unfolding answers negative sample282
 right282 = refl
 
 right283 : Right sample283
-unfolding answers sample283
+unfolding answers negative sample283
 right283 = refl
 
 right284 : Right sample284
-unfolding answers sample284
+unfolding answers negative sample284
 right284 = refl
 
 right285 : Right sample285
-unfolding answers sample285
+unfolding answers negative sample285
 right285 = refl
 
 right286 : Right sample286
-unfolding answers sample286
+unfolding answers negative sample286
 right286 = refl
 
 right287 : Right sample287
-unfolding answers sample287
+unfolding answers negative sample287
 right287 = refl
 
 right288 : Right sample288
-unfolding answers sample288
+unfolding answers negative sample288
 right288 = refl
 
+right289 : Right sample289
+unfolding answers negative sample289
+right289 = refl
+
 pub right : AllRight damaged
-right = (right262, (right263, (right264, (right265, (right266, (right267, (right268, (right269, (right270, (right271, (right272, (right273, (right274, (right275, (right276, (right277, (right278, (right279, (right280, (right281, (right282, (right283, (right284, (right285, (right286, (right287, (right288, tt)))))))))))))))))))))))))))
+right = (right263, (right264, (right265, (right266, (right267, (right268, (right269, (right270, (right271, (right272, (right273, (right274, (right275, (right276, (right277, (right278, (right279, (right280, (right281, (right282, (right283, (right284, (right285, (right286, (right287, (right288, (right289, tt)))))))))))))))))))))))))))

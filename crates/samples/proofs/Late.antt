@@ -2,116 +2,117 @@
 -- The lists of the theme "late", computed.
 -- Assumes nothing.
 use mathlib.Core.Path.{refl}
+use Rattle.total.specs.Values.{negative}
 use Rattle.rules.specs.Answers.{Right, AllRight, answers}
-use Rattle.samples.specs.Late.{late, sample73, sample74, sample75, sample76, sample77, sample78, sample79, sample80, sample81, sample82, sample83, sample84, sample85, sample86, sample87, sample88, sample89, sample90, sample91, sample92, sample93, sample94, sample95, sample96, sample97, sample98, sample99}
-
-right73 : Right sample73
-unfolding answers sample73
-right73 = refl
+use Rattle.samples.specs.Late.{late, sample74, sample75, sample76, sample77, sample78, sample79, sample80, sample81, sample82, sample83, sample84, sample85, sample86, sample87, sample88, sample89, sample90, sample91, sample92, sample93, sample94, sample95, sample96, sample97, sample98, sample99, sample100}
 
 right74 : Right sample74
-unfolding answers sample74
+unfolding answers negative sample74
 right74 = refl
 
 right75 : Right sample75
-unfolding answers sample75
+unfolding answers negative sample75
 right75 = refl
 
 right76 : Right sample76
-unfolding answers sample76
+unfolding answers negative sample76
 right76 = refl
 
 right77 : Right sample77
-unfolding answers sample77
+unfolding answers negative sample77
 right77 = refl
 
 right78 : Right sample78
-unfolding answers sample78
+unfolding answers negative sample78
 right78 = refl
 
 right79 : Right sample79
-unfolding answers sample79
+unfolding answers negative sample79
 right79 = refl
 
 right80 : Right sample80
-unfolding answers sample80
+unfolding answers negative sample80
 right80 = refl
 
 right81 : Right sample81
-unfolding answers sample81
+unfolding answers negative sample81
 right81 = refl
 
 right82 : Right sample82
-unfolding answers sample82
+unfolding answers negative sample82
 right82 = refl
 
 right83 : Right sample83
-unfolding answers sample83
+unfolding answers negative sample83
 right83 = refl
 
 right84 : Right sample84
-unfolding answers sample84
+unfolding answers negative sample84
 right84 = refl
 
 right85 : Right sample85
-unfolding answers sample85
+unfolding answers negative sample85
 right85 = refl
 
 right86 : Right sample86
-unfolding answers sample86
+unfolding answers negative sample86
 right86 = refl
 
 right87 : Right sample87
-unfolding answers sample87
+unfolding answers negative sample87
 right87 = refl
 
 right88 : Right sample88
-unfolding answers sample88
+unfolding answers negative sample88
 right88 = refl
 
 right89 : Right sample89
-unfolding answers sample89
+unfolding answers negative sample89
 right89 = refl
 
 right90 : Right sample90
-unfolding answers sample90
+unfolding answers negative sample90
 right90 = refl
 
 right91 : Right sample91
-unfolding answers sample91
+unfolding answers negative sample91
 right91 = refl
 
 right92 : Right sample92
-unfolding answers sample92
+unfolding answers negative sample92
 right92 = refl
 
 right93 : Right sample93
-unfolding answers sample93
+unfolding answers negative sample93
 right93 = refl
 
 right94 : Right sample94
-unfolding answers sample94
+unfolding answers negative sample94
 right94 = refl
 
 right95 : Right sample95
-unfolding answers sample95
+unfolding answers negative sample95
 right95 = refl
 
 right96 : Right sample96
-unfolding answers sample96
+unfolding answers negative sample96
 right96 = refl
 
 right97 : Right sample97
-unfolding answers sample97
+unfolding answers negative sample97
 right97 = refl
 
 right98 : Right sample98
-unfolding answers sample98
+unfolding answers negative sample98
 right98 = refl
 
 right99 : Right sample99
-unfolding answers sample99
+unfolding answers negative sample99
 right99 = refl
 
+right100 : Right sample100
+unfolding answers negative sample100
+right100 = refl
+
 pub right : AllRight late
-right = (right73, (right74, (right75, (right76, (right77, (right78, (right79, (right80, (right81, (right82, (right83, (right84, (right85, (right86, (right87, (right88, (right89, (right90, (right91, (right92, (right93, (right94, (right95, (right96, (right97, (right98, (right99, tt)))))))))))))))))))))))))))
+right = (right74, (right75, (right76, (right77, (right78, (right79, (right80, (right81, (right82, (right83, (right84, (right85, (right86, (right87, (right88, (right89, (right90, (right91, (right92, (right93, (right94, (right95, (right96, (right97, (right98, (right99, (right100, tt)))))))))))))))))))))))))))

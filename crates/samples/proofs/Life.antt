@@ -2,116 +2,117 @@
 -- The lists of the theme "life", computed.
 -- Assumes nothing.
 use mathlib.Core.Path.{refl}
+use Rattle.total.specs.Values.{negative}
 use Rattle.rules.specs.Answers.{Right, AllRight, answers}
-use Rattle.samples.specs.Life.{life, sample19, sample20, sample21, sample22, sample23, sample24, sample25, sample26, sample27, sample28, sample29, sample30, sample31, sample32, sample33, sample34, sample35, sample36, sample37, sample38, sample39, sample40, sample41, sample42, sample43, sample44, sample45}
-
-right19 : Right sample19
-unfolding answers sample19
-right19 = refl
+use Rattle.samples.specs.Life.{life, sample20, sample21, sample22, sample23, sample24, sample25, sample26, sample27, sample28, sample29, sample30, sample31, sample32, sample33, sample34, sample35, sample36, sample37, sample38, sample39, sample40, sample41, sample42, sample43, sample44, sample45, sample46}
 
 right20 : Right sample20
-unfolding answers sample20
+unfolding answers negative sample20
 right20 = refl
 
 right21 : Right sample21
-unfolding answers sample21
+unfolding answers negative sample21
 right21 = refl
 
 right22 : Right sample22
-unfolding answers sample22
+unfolding answers negative sample22
 right22 = refl
 
 right23 : Right sample23
-unfolding answers sample23
+unfolding answers negative sample23
 right23 = refl
 
 right24 : Right sample24
-unfolding answers sample24
+unfolding answers negative sample24
 right24 = refl
 
 right25 : Right sample25
-unfolding answers sample25
+unfolding answers negative sample25
 right25 = refl
 
 right26 : Right sample26
-unfolding answers sample26
+unfolding answers negative sample26
 right26 = refl
 
 right27 : Right sample27
-unfolding answers sample27
+unfolding answers negative sample27
 right27 = refl
 
 right28 : Right sample28
-unfolding answers sample28
+unfolding answers negative sample28
 right28 = refl
 
 right29 : Right sample29
-unfolding answers sample29
+unfolding answers negative sample29
 right29 = refl
 
 right30 : Right sample30
-unfolding answers sample30
+unfolding answers negative sample30
 right30 = refl
 
 right31 : Right sample31
-unfolding answers sample31
+unfolding answers negative sample31
 right31 = refl
 
 right32 : Right sample32
-unfolding answers sample32
+unfolding answers negative sample32
 right32 = refl
 
 right33 : Right sample33
-unfolding answers sample33
+unfolding answers negative sample33
 right33 = refl
 
 right34 : Right sample34
-unfolding answers sample34
+unfolding answers negative sample34
 right34 = refl
 
 right35 : Right sample35
-unfolding answers sample35
+unfolding answers negative sample35
 right35 = refl
 
 right36 : Right sample36
-unfolding answers sample36
+unfolding answers negative sample36
 right36 = refl
 
 right37 : Right sample37
-unfolding answers sample37
+unfolding answers negative sample37
 right37 = refl
 
 right38 : Right sample38
-unfolding answers sample38
+unfolding answers negative sample38
 right38 = refl
 
 right39 : Right sample39
-unfolding answers sample39
+unfolding answers negative sample39
 right39 = refl
 
 right40 : Right sample40
-unfolding answers sample40
+unfolding answers negative sample40
 right40 = refl
 
 right41 : Right sample41
-unfolding answers sample41
+unfolding answers negative sample41
 right41 = refl
 
 right42 : Right sample42
-unfolding answers sample42
+unfolding answers negative sample42
 right42 = refl
 
 right43 : Right sample43
-unfolding answers sample43
+unfolding answers negative sample43
 right43 = refl
 
 right44 : Right sample44
-unfolding answers sample44
+unfolding answers negative sample44
 right44 = refl
 
 right45 : Right sample45
-unfolding answers sample45
+unfolding answers negative sample45
 right45 = refl
 
+right46 : Right sample46
+unfolding answers negative sample46
+right46 = refl
+
 pub right : AllRight life
-right = (right19, (right20, (right21, (right22, (right23, (right24, (right25, (right26, (right27, (right28, (right29, (right30, (right31, (right32, (right33, (right34, (right35, (right36, (right37, (right38, (right39, (right40, (right41, (right42, (right43, (right44, (right45, tt)))))))))))))))))))))))))))
+right = (right20, (right21, (right22, (right23, (right24, (right25, (right26, (right27, (right28, (right29, (right30, (right31, (right32, (right33, (right34, (right35, (right36, (right37, (right38, (right39, (right40, (right41, (right42, (right43, (right44, (right45, (right46, tt)))))))))))))))))))))))))))

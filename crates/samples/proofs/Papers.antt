@@ -2,84 +2,89 @@
 -- The lists of the theme "papers", computed.
 -- Assumes nothing.
 use mathlib.Core.Path.{refl}
+use Rattle.total.specs.Values.{negative}
 use Rattle.rules.specs.Answers.{Right, AllRight, answers}
-use Rattle.samples.specs.Papers.{papers, sample0, sample1, sample2, sample3, sample4, sample5, sample6, sample7, sample8, sample9, sample10, sample11, sample12, sample13, sample14, sample15, sample16, sample17, sample18}
+use Rattle.samples.specs.Papers.{papers, sample0, sample1, sample2, sample3, sample4, sample5, sample6, sample7, sample8, sample9, sample10, sample11, sample12, sample13, sample14, sample15, sample16, sample17, sample18, sample19}
 
 right0 : Right sample0
-unfolding answers sample0
+unfolding answers negative sample0
 right0 = refl
 
 right1 : Right sample1
-unfolding answers sample1
+unfolding answers negative sample1
 right1 = refl
 
 right2 : Right sample2
-unfolding answers sample2
+unfolding answers negative sample2
 right2 = refl
 
 right3 : Right sample3
-unfolding answers sample3
+unfolding answers negative sample3
 right3 = refl
 
 right4 : Right sample4
-unfolding answers sample4
+unfolding answers negative sample4
 right4 = refl
 
 right5 : Right sample5
-unfolding answers sample5
+unfolding answers negative sample5
 right5 = refl
 
 right6 : Right sample6
-unfolding answers sample6
+unfolding answers negative sample6
 right6 = refl
 
 right7 : Right sample7
-unfolding answers sample7
+unfolding answers negative sample7
 right7 = refl
 
 right8 : Right sample8
-unfolding answers sample8
+unfolding answers negative sample8
 right8 = refl
 
 right9 : Right sample9
-unfolding answers sample9
+unfolding answers negative sample9
 right9 = refl
 
 right10 : Right sample10
-unfolding answers sample10
+unfolding answers negative sample10
 right10 = refl
 
 right11 : Right sample11
-unfolding answers sample11
+unfolding answers negative sample11
 right11 = refl
 
 right12 : Right sample12
-unfolding answers sample12
+unfolding answers negative sample12
 right12 = refl
 
 right13 : Right sample13
-unfolding answers sample13
+unfolding answers negative sample13
 right13 = refl
 
 right14 : Right sample14
-unfolding answers sample14
+unfolding answers negative sample14
 right14 = refl
 
 right15 : Right sample15
-unfolding answers sample15
+unfolding answers negative sample15
 right15 = refl
 
 right16 : Right sample16
-unfolding answers sample16
+unfolding answers negative sample16
 right16 = refl
 
 right17 : Right sample17
-unfolding answers sample17
+unfolding answers negative sample17
 right17 = refl
 
 right18 : Right sample18
-unfolding answers sample18
+unfolding answers negative sample18
 right18 = refl
 
+right19 : Right sample19
+unfolding answers negative sample19
+right19 = refl
+
 pub right : AllRight papers
-right = (right0, (right1, (right2, (right3, (right4, (right5, (right6, (right7, (right8, (right9, (right10, (right11, (right12, (right13, (right14, (right15, (right16, (right17, (right18, tt)))))))))))))))))))
+right = (right0, (right1, (right2, (right3, (right4, (right5, (right6, (right7, (right8, (right9, (right10, (right11, (right12, (right13, (right14, (right15, (right16, (right17, (right18, (right19, tt))))))))))))))))))))

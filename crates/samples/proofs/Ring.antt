@@ -2,116 +2,117 @@
 -- The lists of the theme "ring", computed.
 -- Assumes nothing.
 use mathlib.Core.Path.{refl}
+use Rattle.total.specs.Values.{negative}
 use Rattle.rules.specs.Answers.{Right, AllRight, answers}
-use Rattle.samples.specs.Ring.{ring, sample46, sample47, sample48, sample49, sample50, sample51, sample52, sample53, sample54, sample55, sample56, sample57, sample58, sample59, sample60, sample61, sample62, sample63, sample64, sample65, sample66, sample67, sample68, sample69, sample70, sample71, sample72}
-
-right46 : Right sample46
-unfolding answers sample46
-right46 = refl
+use Rattle.samples.specs.Ring.{ring, sample47, sample48, sample49, sample50, sample51, sample52, sample53, sample54, sample55, sample56, sample57, sample58, sample59, sample60, sample61, sample62, sample63, sample64, sample65, sample66, sample67, sample68, sample69, sample70, sample71, sample72, sample73}
 
 right47 : Right sample47
-unfolding answers sample47
+unfolding answers negative sample47
 right47 = refl
 
 right48 : Right sample48
-unfolding answers sample48
+unfolding answers negative sample48
 right48 = refl
 
 right49 : Right sample49
-unfolding answers sample49
+unfolding answers negative sample49
 right49 = refl
 
 right50 : Right sample50
-unfolding answers sample50
+unfolding answers negative sample50
 right50 = refl
 
 right51 : Right sample51
-unfolding answers sample51
+unfolding answers negative sample51
 right51 = refl
 
 right52 : Right sample52
-unfolding answers sample52
+unfolding answers negative sample52
 right52 = refl
 
 right53 : Right sample53
-unfolding answers sample53
+unfolding answers negative sample53
 right53 = refl
 
 right54 : Right sample54
-unfolding answers sample54
+unfolding answers negative sample54
 right54 = refl
 
 right55 : Right sample55
-unfolding answers sample55
+unfolding answers negative sample55
 right55 = refl
 
 right56 : Right sample56
-unfolding answers sample56
+unfolding answers negative sample56
 right56 = refl
 
 right57 : Right sample57
-unfolding answers sample57
+unfolding answers negative sample57
 right57 = refl
 
 right58 : Right sample58
-unfolding answers sample58
+unfolding answers negative sample58
 right58 = refl
 
 right59 : Right sample59
-unfolding answers sample59
+unfolding answers negative sample59
 right59 = refl
 
 right60 : Right sample60
-unfolding answers sample60
+unfolding answers negative sample60
 right60 = refl
 
 right61 : Right sample61
-unfolding answers sample61
+unfolding answers negative sample61
 right61 = refl
 
 right62 : Right sample62
-unfolding answers sample62
+unfolding answers negative sample62
 right62 = refl
 
 right63 : Right sample63
-unfolding answers sample63
+unfolding answers negative sample63
 right63 = refl
 
 right64 : Right sample64
-unfolding answers sample64
+unfolding answers negative sample64
 right64 = refl
 
 right65 : Right sample65
-unfolding answers sample65
+unfolding answers negative sample65
 right65 = refl
 
 right66 : Right sample66
-unfolding answers sample66
+unfolding answers negative sample66
 right66 = refl
 
 right67 : Right sample67
-unfolding answers sample67
+unfolding answers negative sample67
 right67 = refl
 
 right68 : Right sample68
-unfolding answers sample68
+unfolding answers negative sample68
 right68 = refl
 
 right69 : Right sample69
-unfolding answers sample69
+unfolding answers negative sample69
 right69 = refl
 
 right70 : Right sample70
-unfolding answers sample70
+unfolding answers negative sample70
 right70 = refl
 
 right71 : Right sample71
-unfolding answers sample71
+unfolding answers negative sample71
 right71 = refl
 
 right72 : Right sample72
-unfolding answers sample72
+unfolding answers negative sample72
 right72 = refl
 
+right73 : Right sample73
+unfolding answers negative sample73
+right73 = refl
+
 pub right : AllRight ring
-right = (right46, (right47, (right48, (right49, (right50, (right51, (right52, (right53, (right54, (right55, (right56, (right57, (right58, (right59, (right60, (right61, (right62, (right63, (right64, (right65, (right66, (right67, (right68, (right69, (right70, (right71, (right72, tt)))))))))))))))))))))))))))
+right = (right47, (right48, (right49, (right50, (right51, (right52, (right53, (right54, (right55, (right56, (right57, (right58, (right59, (right60, (right61, (right62, (right63, (right64, (right65, (right66, (right67, (right68, (right69, (right70, (right71, (right72, (right73, tt)))))))))))))))))))))))))))

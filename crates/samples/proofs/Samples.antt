@@ -2,116 +2,117 @@
 -- The lists of the theme "samples", computed.
 -- Assumes nothing.
 use mathlib.Core.Path.{refl}
+use Rattle.total.specs.Values.{negative}
 use Rattle.rules.specs.Answers.{Right, AllRight, answers}
-use Rattle.samples.specs.Samples.{samples, sample235, sample236, sample237, sample238, sample239, sample240, sample241, sample242, sample243, sample244, sample245, sample246, sample247, sample248, sample249, sample250, sample251, sample252, sample253, sample254, sample255, sample256, sample257, sample258, sample259, sample260, sample261}
-
-right235 : Right sample235
-unfolding answers sample235
-right235 = refl
+use Rattle.samples.specs.Samples.{samples, sample236, sample237, sample238, sample239, sample240, sample241, sample242, sample243, sample244, sample245, sample246, sample247, sample248, sample249, sample250, sample251, sample252, sample253, sample254, sample255, sample256, sample257, sample258, sample259, sample260, sample261, sample262}
 
 right236 : Right sample236
-unfolding answers sample236
+unfolding answers negative sample236
 right236 = refl
 
 right237 : Right sample237
-unfolding answers sample237
+unfolding answers negative sample237
 right237 = refl
 
 right238 : Right sample238
-unfolding answers sample238
+unfolding answers negative sample238
 right238 = refl
 
 right239 : Right sample239
-unfolding answers sample239
+unfolding answers negative sample239
 right239 = refl
 
 right240 : Right sample240
-unfolding answers sample240
+unfolding answers negative sample240
 right240 = refl
 
 right241 : Right sample241
-unfolding answers sample241
+unfolding answers negative sample241
 right241 = refl
 
 right242 : Right sample242
-unfolding answers sample242
+unfolding answers negative sample242
 right242 = refl
 
 right243 : Right sample243
-unfolding answers sample243
+unfolding answers negative sample243
 right243 = refl
 
 right244 : Right sample244
-unfolding answers sample244
+unfolding answers negative sample244
 right244 = refl
 
 right245 : Right sample245
-unfolding answers sample245
+unfolding answers negative sample245
 right245 = refl
 
 right246 : Right sample246
-unfolding answers sample246
+unfolding answers negative sample246
 right246 = refl
 
 right247 : Right sample247
-unfolding answers sample247
+unfolding answers negative sample247
 right247 = refl
 
 right248 : Right sample248
-unfolding answers sample248
+unfolding answers negative sample248
 right248 = refl
 
 right249 : Right sample249
-unfolding answers sample249
+unfolding answers negative sample249
 right249 = refl
 
 right250 : Right sample250
-unfolding answers sample250
+unfolding answers negative sample250
 right250 = refl
 
 right251 : Right sample251
-unfolding answers sample251
+unfolding answers negative sample251
 right251 = refl
 
 right252 : Right sample252
-unfolding answers sample252
+unfolding answers negative sample252
 right252 = refl
 
 right253 : Right sample253
-unfolding answers sample253
+unfolding answers negative sample253
 right253 = refl
 
 right254 : Right sample254
-unfolding answers sample254
+unfolding answers negative sample254
 right254 = refl
 
 right255 : Right sample255
-unfolding answers sample255
+unfolding answers negative sample255
 right255 = refl
 
 right256 : Right sample256
-unfolding answers sample256
+unfolding answers negative sample256
 right256 = refl
 
 right257 : Right sample257
-unfolding answers sample257
+unfolding answers negative sample257
 right257 = refl
 
 right258 : Right sample258
-unfolding answers sample258
+unfolding answers negative sample258
 right258 = refl
 
 right259 : Right sample259
-unfolding answers sample259
+unfolding answers negative sample259
 right259 = refl
 
 right260 : Right sample260
-unfolding answers sample260
+unfolding answers negative sample260
 right260 = refl
 
 right261 : Right sample261
-unfolding answers sample261
+unfolding answers negative sample261
 right261 = refl
 
+right262 : Right sample262
+unfolding answers negative sample262
+right262 = refl
+
 pub right : AllRight samples
-right = (right235, (right236, (right237, (right238, (right239, (right240, (right241, (right242, (right243, (right244, (right245, (right246, (right247, (right248, (right249, (right250, (right251, (right252, (right253, (right254, (right255, (right256, (right257, (right258, (right259, (right260, (right261, tt)))))))))))))))))))))))))))
+right = (right236, (right237, (right238, (right239, (right240, (right241, (right242, (right243, (right244, (right245, (right246, (right247, (right248, (right249, (right250, (right251, (right252, (right253, (right254, (right255, (right256, (right257, (right258, (right259, (right260, (right261, (right262, tt)))))))))))))))))))))))))))

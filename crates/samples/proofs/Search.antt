@@ -2,116 +2,117 @@
 -- The lists of the theme "search", computed.
 -- Assumes nothing.
 use mathlib.Core.Path.{refl}
+use Rattle.total.specs.Values.{negative}
 use Rattle.rules.specs.Answers.{Right, AllRight, answers}
-use Rattle.samples.specs.Search.{search, sample127, sample128, sample129, sample130, sample131, sample132, sample133, sample134, sample135, sample136, sample137, sample138, sample139, sample140, sample141, sample142, sample143, sample144, sample145, sample146, sample147, sample148, sample149, sample150, sample151, sample152, sample153}
-
-right127 : Right sample127
-unfolding answers sample127
-right127 = refl
+use Rattle.samples.specs.Search.{search, sample128, sample129, sample130, sample131, sample132, sample133, sample134, sample135, sample136, sample137, sample138, sample139, sample140, sample141, sample142, sample143, sample144, sample145, sample146, sample147, sample148, sample149, sample150, sample151, sample152, sample153, sample154}
 
 right128 : Right sample128
-unfolding answers sample128
+unfolding answers negative sample128
 right128 = refl
 
 right129 : Right sample129
-unfolding answers sample129
+unfolding answers negative sample129
 right129 = refl
 
 right130 : Right sample130
-unfolding answers sample130
+unfolding answers negative sample130
 right130 = refl
 
 right131 : Right sample131
-unfolding answers sample131
+unfolding answers negative sample131
 right131 = refl
 
 right132 : Right sample132
-unfolding answers sample132
+unfolding answers negative sample132
 right132 = refl
 
 right133 : Right sample133
-unfolding answers sample133
+unfolding answers negative sample133
 right133 = refl
 
 right134 : Right sample134
-unfolding answers sample134
+unfolding answers negative sample134
 right134 = refl
 
 right135 : Right sample135
-unfolding answers sample135
+unfolding answers negative sample135
 right135 = refl
 
 right136 : Right sample136
-unfolding answers sample136
+unfolding answers negative sample136
 right136 = refl
 
 right137 : Right sample137
-unfolding answers sample137
+unfolding answers negative sample137
 right137 = refl
 
 right138 : Right sample138
-unfolding answers sample138
+unfolding answers negative sample138
 right138 = refl
 
 right139 : Right sample139
-unfolding answers sample139
+unfolding answers negative sample139
 right139 = refl
 
 right140 : Right sample140
-unfolding answers sample140
+unfolding answers negative sample140
 right140 = refl
 
 right141 : Right sample141
-unfolding answers sample141
+unfolding answers negative sample141
 right141 = refl
 
 right142 : Right sample142
-unfolding answers sample142
+unfolding answers negative sample142
 right142 = refl
 
 right143 : Right sample143
-unfolding answers sample143
+unfolding answers negative sample143
 right143 = refl
 
 right144 : Right sample144
-unfolding answers sample144
+unfolding answers negative sample144
 right144 = refl
 
 right145 : Right sample145
-unfolding answers sample145
+unfolding answers negative sample145
 right145 = refl
 
 right146 : Right sample146
-unfolding answers sample146
+unfolding answers negative sample146
 right146 = refl
 
 right147 : Right sample147
-unfolding answers sample147
+unfolding answers negative sample147
 right147 = refl
 
 right148 : Right sample148
-unfolding answers sample148
+unfolding answers negative sample148
 right148 = refl
 
 right149 : Right sample149
-unfolding answers sample149
+unfolding answers negative sample149
 right149 = refl
 
 right150 : Right sample150
-unfolding answers sample150
+unfolding answers negative sample150
 right150 = refl
 
 right151 : Right sample151
-unfolding answers sample151
+unfolding answers negative sample151
 right151 = refl
 
 right152 : Right sample152
-unfolding answers sample152
+unfolding answers negative sample152
 right152 = refl
 
 right153 : Right sample153
-unfolding answers sample153
+unfolding answers negative sample153
 right153 = refl
 
+right154 : Right sample154
+unfolding answers negative sample154
+right154 = refl
+
 pub right : AllRight search
-right = (right127, (right128, (right129, (right130, (right131, (right132, (right133, (right134, (right135, (right136, (right137, (right138, (right139, (right140, (right141, (right142, (right143, (right144, (right145, (right146, (right147, (right148, (right149, (right150, (right151, (right152, (right153, tt)))))))))))))))))))))))))))
+right = (right128, (right129, (right130, (right131, (right132, (right133, (right134, (right135, (right136, (right137, (right138, (right139, (right140, (right141, (right142, (right143, (right144, (right145, (right146, (right147, (right148, (right149, (right150, (right151, (right152, (right153, (right154, tt)))))))))))))))))))))))))))

@@ -2,116 +2,117 @@
 -- The lists of the theme "sizes", computed.
 -- Assumes nothing.
 use mathlib.Core.Path.{refl}
+use Rattle.total.specs.Values.{negative}
 use Rattle.rules.specs.Answers.{Right, AllRight, answers}
-use Rattle.samples.specs.Sizes.{sizes, sample154, sample155, sample156, sample157, sample158, sample159, sample160, sample161, sample162, sample163, sample164, sample165, sample166, sample167, sample168, sample169, sample170, sample171, sample172, sample173, sample174, sample175, sample176, sample177, sample178, sample179, sample180}
-
-right154 : Right sample154
-unfolding answers sample154
-right154 = refl
+use Rattle.samples.specs.Sizes.{sizes, sample155, sample156, sample157, sample158, sample159, sample160, sample161, sample162, sample163, sample164, sample165, sample166, sample167, sample168, sample169, sample170, sample171, sample172, sample173, sample174, sample175, sample176, sample177, sample178, sample179, sample180, sample181}
 
 right155 : Right sample155
-unfolding answers sample155
+unfolding answers negative sample155
 right155 = refl
 
 right156 : Right sample156
-unfolding answers sample156
+unfolding answers negative sample156
 right156 = refl
 
 right157 : Right sample157
-unfolding answers sample157
+unfolding answers negative sample157
 right157 = refl
 
 right158 : Right sample158
-unfolding answers sample158
+unfolding answers negative sample158
 right158 = refl
 
 right159 : Right sample159
-unfolding answers sample159
+unfolding answers negative sample159
 right159 = refl
 
 right160 : Right sample160
-unfolding answers sample160
+unfolding answers negative sample160
 right160 = refl
 
 right161 : Right sample161
-unfolding answers sample161
+unfolding answers negative sample161
 right161 = refl
 
 right162 : Right sample162
-unfolding answers sample162
+unfolding answers negative sample162
 right162 = refl
 
 right163 : Right sample163
-unfolding answers sample163
+unfolding answers negative sample163
 right163 = refl
 
 right164 : Right sample164
-unfolding answers sample164
+unfolding answers negative sample164
 right164 = refl
 
 right165 : Right sample165
-unfolding answers sample165
+unfolding answers negative sample165
 right165 = refl
 
 right166 : Right sample166
-unfolding answers sample166
+unfolding answers negative sample166
 right166 = refl
 
 right167 : Right sample167
-unfolding answers sample167
+unfolding answers negative sample167
 right167 = refl
 
 right168 : Right sample168
-unfolding answers sample168
+unfolding answers negative sample168
 right168 = refl
 
 right169 : Right sample169
-unfolding answers sample169
+unfolding answers negative sample169
 right169 = refl
 
 right170 : Right sample170
-unfolding answers sample170
+unfolding answers negative sample170
 right170 = refl
 
 right171 : Right sample171
-unfolding answers sample171
+unfolding answers negative sample171
 right171 = refl
 
 right172 : Right sample172
-unfolding answers sample172
+unfolding answers negative sample172
 right172 = refl
 
 right173 : Right sample173
-unfolding answers sample173
+unfolding answers negative sample173
 right173 = refl
 
 right174 : Right sample174
-unfolding answers sample174
+unfolding answers negative sample174
 right174 = refl
 
 right175 : Right sample175
-unfolding answers sample175
+unfolding answers negative sample175
 right175 = refl
 
 right176 : Right sample176
-unfolding answers sample176
+unfolding answers negative sample176
 right176 = refl
 
 right177 : Right sample177
-unfolding answers sample177
+unfolding answers negative sample177
 right177 = refl
 
 right178 : Right sample178
-unfolding answers sample178
+unfolding answers negative sample178
 right178 = refl
 
 right179 : Right sample179
-unfolding answers sample179
+unfolding answers negative sample179
 right179 = refl
 
 right180 : Right sample180
-unfolding answers sample180
+unfolding answers negative sample180
 right180 = refl
 
+right181 : Right sample181
+unfolding answers negative sample181
+right181 = refl
+
 pub right : AllRight sizes
-right = (right154, (right155, (right156, (right157, (right158, (right159, (right160, (right161, (right162, (right163, (right164, (right165, (right166, (right167, (right168, (right169, (right170, (right171, (right172, (right173, (right174, (right175, (right176, (right177, (right178, (right179, (right180, tt)))))))))))))))))))))))))))
+right = (right155, (right156, (right157, (right158, (right159, (right160, (right161, (right162, (right163, (right164, (right165, (right166, (right167, (right168, (right169, (right170, (right171, (right172, (right173, (right174, (right175, (right176, (right177, (right178, (right179, (right180, (right181, tt)))))))))))))))))))))))))))

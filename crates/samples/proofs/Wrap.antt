@@ -2,116 +2,117 @@
 -- The lists of the theme "wrap", computed.
 -- Assumes nothing.
 use mathlib.Core.Path.{refl}
+use Rattle.total.specs.Values.{negative}
 use Rattle.rules.specs.Answers.{Right, AllRight, answers}
-use Rattle.samples.specs.Wrap.{wrap, sample100, sample101, sample102, sample103, sample104, sample105, sample106, sample107, sample108, sample109, sample110, sample111, sample112, sample113, sample114, sample115, sample116, sample117, sample118, sample119, sample120, sample121, sample122, sample123, sample124, sample125, sample126}
-
-right100 : Right sample100
-unfolding answers sample100
-right100 = refl
+use Rattle.samples.specs.Wrap.{wrap, sample101, sample102, sample103, sample104, sample105, sample106, sample107, sample108, sample109, sample110, sample111, sample112, sample113, sample114, sample115, sample116, sample117, sample118, sample119, sample120, sample121, sample122, sample123, sample124, sample125, sample126, sample127}
 
 right101 : Right sample101
-unfolding answers sample101
+unfolding answers negative sample101
 right101 = refl
 
 right102 : Right sample102
-unfolding answers sample102
+unfolding answers negative sample102
 right102 = refl
 
 right103 : Right sample103
-unfolding answers sample103
+unfolding answers negative sample103
 right103 = refl
 
 right104 : Right sample104
-unfolding answers sample104
+unfolding answers negative sample104
 right104 = refl
 
 right105 : Right sample105
-unfolding answers sample105
+unfolding answers negative sample105
 right105 = refl
 
 right106 : Right sample106
-unfolding answers sample106
+unfolding answers negative sample106
 right106 = refl
 
 right107 : Right sample107
-unfolding answers sample107
+unfolding answers negative sample107
 right107 = refl
 
 right108 : Right sample108
-unfolding answers sample108
+unfolding answers negative sample108
 right108 = refl
 
 right109 : Right sample109
-unfolding answers sample109
+unfolding answers negative sample109
 right109 = refl
 
 right110 : Right sample110
-unfolding answers sample110
+unfolding answers negative sample110
 right110 = refl
 
 right111 : Right sample111
-unfolding answers sample111
+unfolding answers negative sample111
 right111 = refl
 
 right112 : Right sample112
-unfolding answers sample112
+unfolding answers negative sample112
 right112 = refl
 
 right113 : Right sample113
-unfolding answers sample113
+unfolding answers negative sample113
 right113 = refl
 
 right114 : Right sample114
-unfolding answers sample114
+unfolding answers negative sample114
 right114 = refl
 
 right115 : Right sample115
-unfolding answers sample115
+unfolding answers negative sample115
 right115 = refl
 
 right116 : Right sample116
-unfolding answers sample116
+unfolding answers negative sample116
 right116 = refl
 
 right117 : Right sample117
-unfolding answers sample117
+unfolding answers negative sample117
 right117 = refl
 
 right118 : Right sample118
-unfolding answers sample118
+unfolding answers negative sample118
 right118 = refl
 
 right119 : Right sample119
-unfolding answers sample119
+unfolding answers negative sample119
 right119 = refl
 
 right120 : Right sample120
-unfolding answers sample120
+unfolding answers negative sample120
 right120 = refl
 
 right121 : Right sample121
-unfolding answers sample121
+unfolding answers negative sample121
 right121 = refl
 
 right122 : Right sample122
-unfolding answers sample122
+unfolding answers negative sample122
 right122 = refl
 
 right123 : Right sample123
-unfolding answers sample123
+unfolding answers negative sample123
 right123 = refl
 
 right124 : Right sample124
-unfolding answers sample124
+unfolding answers negative sample124
 right124 = refl
 
 right125 : Right sample125
-unfolding answers sample125
+unfolding answers negative sample125
 right125 = refl
 
 right126 : Right sample126
-unfolding answers sample126
+unfolding answers negative sample126
 right126 = refl
 
+right127 : Right sample127
+unfolding answers negative sample127
+right127 = refl
+
 pub right : AllRight wrap
-right = (right100, (right101, (right102, (right103, (right104, (right105, (right106, (right107, (right108, (right109, (right110, (right111, (right112, (right113, (right114, (right115, (right116, (right117, (right118, (right119, (right120, (right121, (right122, (right123, (right124, (right125, (right126, tt)))))))))))))))))))))))))))
+right = (right101, (right102, (right103, (right104, (right105, (right106, (right107, (right108, (right109, (right110, (right111, (right112, (right113, (right114, (right115, (right116, (right117, (right118, (right119, (right120, (right121, (right122, (right123, (right124, (right125, (right126, (right127, tt)))))))))))))))))))))))))))

@@ -4,8 +4,8 @@ use mathlib.Core.List.{List, [], _∷_}
 use Rattle.rules.specs.Answers.{Sample, event, settings}
 
 -- seed 0x9ca8a164477d7801, 102 events
-unfoldable pub sample208 : Sample
-sample208 =
+unfoldable pub sample209 : Sample
+sample209 =
     record {
       settings = settings 39 0 0 0;
       events =
@@ -67,8 +67,8 @@ sample208 =
     }
 
 -- seed 0x893eb7db0dddbdb4, 45 events
-unfoldable pub sample209 : Sample
-sample209 =
+unfoldable pub sample210 : Sample
+sample210 =
     record {
       settings = settings 37000000 28 4611686018427387903 13000000;
       events =
@@ -96,8 +96,8 @@ sample209 =
     }
 
 -- seed 0x5ff76408568ac010, 46 events
-unfoldable pub sample210 : Sample
-sample210 =
+unfoldable pub sample211 : Sample
+sample211 =
     record {
       settings = settings 0 2147483648 4611686018427387903 2033365060;
       events =
@@ -129,8 +129,8 @@ sample210 =
     }
 
 -- seed 0x5b5f326dc867209a, 199 events
-unfoldable pub sample211 : Sample
-sample211 =
+unfoldable pub sample212 : Sample
+sample212 =
     record {
       settings = settings 0 8 4294967295 1;
       events =
@@ -232,8 +232,8 @@ sample211 =
     }
 
 -- seed 0x6fd25c66f20f786c, 15 events
-unfoldable pub sample212 : Sample
-sample212 =
+unfoldable pub sample213 : Sample
+sample213 =
     record {
       settings = settings 0 31 29000000000 0;
       events =
@@ -250,8 +250,8 @@ sample212 =
     }
 
 -- seed 0xbd377841a8d9bf64, 31 events
-unfoldable pub sample213 : Sample
-sample213 =
+unfoldable pub sample214 : Sample
+sample214 =
     record {
       settings = settings 0 20 0 19000000;
       events =
@@ -275,8 +275,8 @@ sample213 =
     }
 
 -- seed 0x31f63082e80e3a66, 125 events
-unfoldable pub sample214 : Sample
-sample214 =
+unfoldable pub sample215 : Sample
+sample215 =
     record {
       settings = settings 38000000000 0 700457999710121628 38;
       events =
@@ -344,8 +344,8 @@ sample214 =
     }
 
 -- seed 0x95e272ba39e4dc14, 10 events
-unfoldable pub sample215 : Sample
-sample215 =
+unfoldable pub sample216 : Sample
+sample216 =
     record {
       settings = settings 65534 12 4611686018427387903 1;
       events =
@@ -359,8 +359,8 @@ sample215 =
     }
 
 -- seed 0xef18c015b795655, 9 events
-unfoldable pub sample216 : Sample
-sample216 =
+unfoldable pub sample217 : Sample
+sample217 =
     record {
       settings = settings 4611686018427387903 4611686018427387903 4294967296 16000000000;
       events =
@@ -375,8 +375,8 @@ sample216 =
     }
 
 -- seed 0x639ad55c66d3a003, 180 events
-unfoldable pub sample217 : Sample
-sample217 =
+unfoldable pub sample218 : Sample
+sample218 =
     record {
       settings = settings 0 12000000 4611686018427387903 25630791145523;
       events =
@@ -478,8 +478,8 @@ sample217 =
     }
 
 -- seed 0x225ee573d81e5943, 8 events
-unfoldable pub sample218 : Sample
-sample218 =
+unfoldable pub sample219 : Sample
+sample219 =
     record {
       settings = settings 4 333842066030 0 26000000;
       events =
@@ -493,8 +493,8 @@ sample218 =
     }
 
 -- seed 0x66dd5c801ca541f4, 45 events
-unfoldable pub sample219 : Sample
-sample219 =
+unfoldable pub sample220 : Sample
+sample220 =
     record {
       settings = settings 6000000000 4611686018427387903 1885302021976158635 0;
       events =
@@ -525,8 +525,8 @@ sample219 =
     }
 
 -- seed 0x42554116e6c08482, 89 events
-unfoldable pub sample220 : Sample
-sample220 =
+unfoldable pub sample221 : Sample
+sample221 =
     record {
       settings = settings 446859050 30000000000 38000000000 15000000000;
       events =
@@ -579,8 +579,8 @@ sample220 =
     }
 
 -- seed 0x3b1b4540b1368fcd, 12 events
-unfoldable pub sample221 : Sample
-sample221 =
+unfoldable pub sample222 : Sample
+sample222 =
     record {
       settings = settings 0 0 4611686018427387903 0;
       events =
@@ -595,8 +595,8 @@ sample221 =
     }
 
 -- seed 0xadfe7b65a8546f67, 29 events
-unfoldable pub sample222 : Sample
-sample222 =
+unfoldable pub sample223 : Sample
+sample223 =
     record {
       settings = settings 1000000000 4611686018427387903 27000000 1;
       events =
@@ -619,8 +619,8 @@ sample222 =
     }
 
 -- seed 0x78d21235f043da9, 91 events
-unfoldable pub sample223 : Sample
-sample223 =
+unfoldable pub sample224 : Sample
+sample224 =
     record {
       settings = settings 0 0 0 13;
       events =
@@ -674,8 +674,8 @@ sample223 =
     }
 
 -- seed 0xfb5ff89c958322bc, 31 events
-unfoldable pub sample224 : Sample
-sample224 =
+unfoldable pub sample225 : Sample
+sample225 =
     record {
       settings = settings 0 8000000000 0 6000000000;
       events =
@@ -699,8 +699,8 @@ sample224 =
     }
 
 -- seed 0x701d94766e78a918, 11 events
-unfoldable pub sample225 : Sample
-sample225 =
+unfoldable pub sample226 : Sample
+sample226 =
     record {
       settings = settings 0 4611686018427387903 31 0;
       events =
@@ -715,8 +715,8 @@ sample225 =
     }
 
 -- seed 0xae6d9af6cf605bc4, 249 events
-unfoldable pub sample226 : Sample
-sample226 =
+unfoldable pub sample227 : Sample
+sample227 =
     record {
       settings = settings 0 4611686018427387903 7 25;
       events =
@@ -850,8 +850,8 @@ sample226 =
     }
 
 -- seed 0x9e4bdb9db7213a70, 43 events
-unfoldable pub sample227 : Sample
-sample227 =
+unfoldable pub sample228 : Sample
+sample228 =
     record {
       settings = settings 17000000 0 4611686018427387903 2147483648;
       events =
@@ -882,8 +882,8 @@ sample227 =
     }
 
 -- seed 0x691cfb1624b11b0b, 4 events
-unfoldable pub sample228 : Sample
-sample228 =
+unfoldable pub sample229 : Sample
+sample229 =
     record {
       settings = settings 4611686018427387903 3 9000000 25;
       events =
@@ -895,8 +895,8 @@ sample228 =
     }
 
 -- seed 0x5911bf46e08f179a, 184 events
-unfoldable pub sample229 : Sample
-sample229 =
+unfoldable pub sample230 : Sample
+sample230 =
     record {
       settings = settings 0 32 2 4611686018427387903;
       events =
@@ -995,8 +995,8 @@ sample229 =
     }
 
 -- seed 0x446ed6192ba63d3c, 18 events
-unfoldable pub sample230 : Sample
-sample230 =
+unfoldable pub sample231 : Sample
+sample231 =
     record {
       settings = settings 4611686018427387903 18000000000 0 9000000;
       events =
@@ -1015,8 +1015,8 @@ sample230 =
     }
 
 -- seed 0xc987b62b1ec4138e, 34 events
-unfoldable pub sample231 : Sample
-sample231 =
+unfoldable pub sample232 : Sample
+sample232 =
     record {
       settings = settings 0 18 32 0;
       events =
@@ -1041,8 +1041,8 @@ sample231 =
     }
 
 -- seed 0x409850590445ddce, 143 events
-unfoldable pub sample232 : Sample
-sample232 =
+unfoldable pub sample233 : Sample
+sample233 =
     record {
       settings = settings 4611686018427387903 39000000 5 0;
       events =
@@ -1119,8 +1119,8 @@ sample232 =
     }
 
 -- seed 0xbd77ceb5a22b9348, 17 events
-unfoldable pub sample233 : Sample
-sample233 =
+unfoldable pub sample234 : Sample
+sample234 =
     record {
       settings = settings 2 4427867527953415406 3 8;
       events =
@@ -1138,8 +1138,8 @@ sample233 =
     }
 
 -- seed 0x6467b6a7a452397e, 53 events
-unfoldable pub sample234 : Sample
-sample234 =
+unfoldable pub sample235 : Sample
+sample235 =
     record {
       settings = settings 19000000 4611686018427387903 13 14;
       events =
@@ -1174,7 +1174,7 @@ sample234 =
 
 abbrev pub choice : List Sample
 choice =
-    sample208 ∷ sample209 ∷ sample210 ∷ sample211 ∷ sample212 ∷ sample213 ∷ sample214 ∷ sample215 ∷ sample216 ∷
-    sample217 ∷ sample218 ∷ sample219 ∷ sample220 ∷ sample221 ∷ sample222 ∷ sample223 ∷ sample224 ∷ sample225 ∷
-    sample226 ∷ sample227 ∷ sample228 ∷ sample229 ∷ sample230 ∷ sample231 ∷ sample232 ∷ sample233 ∷ sample234 ∷
+    sample209 ∷ sample210 ∷ sample211 ∷ sample212 ∷ sample213 ∷ sample214 ∷ sample215 ∷ sample216 ∷ sample217 ∷
+    sample218 ∷ sample219 ∷ sample220 ∷ sample221 ∷ sample222 ∷ sample223 ∷ sample224 ∷ sample225 ∷ sample226 ∷
+    sample227 ∷ sample228 ∷ sample229 ∷ sample230 ∷ sample231 ∷ sample232 ∷ sample233 ∷ sample234 ∷ sample235 ∷
     []

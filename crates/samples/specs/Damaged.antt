@@ -4,8 +4,8 @@ use mathlib.Core.List.{List, [], _∷_}
 use Rattle.rules.specs.Answers.{Sample, event, settings}
 
 -- seed 0xbbff7c596e26ce46, 126 events
-unfoldable pub sample262 : Sample
-sample262 =
+unfoldable pub sample263 : Sample
+sample263 =
     record {
       settings = settings 38 0 6 1;
       events =
@@ -105,8 +105,8 @@ sample262 =
     }
 
 -- seed 0xd77e91a249eb9308, 9 events
-unfoldable pub sample263 : Sample
-sample263 =
+unfoldable pub sample264 : Sample
+sample264 =
     record {
       settings = settings 0 150 4611686018427387903 38000000000;
       events =
@@ -121,8 +121,8 @@ sample263 =
     }
 
 -- seed 0xf2eeaeea5e43ebfa, 44 events
-unfoldable pub sample264 : Sample
-sample264 =
+unfoldable pub sample265 : Sample
+sample265 =
     record {
       settings = settings 1100 1 1400 0;
       events =
@@ -161,8 +161,8 @@ sample264 =
     }
 
 -- seed 0xc8dd667cfb73383d, 149 events
-unfoldable pub sample265 : Sample
-sample265 =
+unfoldable pub sample266 : Sample
+sample266 =
     record {
       settings = settings 4294967296 78 0 16000000;
       events =
@@ -274,8 +274,8 @@ sample265 =
     }
 
 -- seed 0x4b0e102e5a42353d, 20 events
-unfoldable pub sample266 : Sample
-sample266 =
+unfoldable pub sample267 : Sample
+sample267 =
     record {
       settings = settings 4611686018427387903 4611686018427387903 34000000 0;
       events =
@@ -299,8 +299,8 @@ sample266 =
     }
 
 -- seed 0x49e36993528b0270, 28 events
-unfoldable pub sample267 : Sample
-sample267 =
+unfoldable pub sample268 : Sample
+sample268 =
     record {
       settings = settings 27 0 0 4;
       events =
@@ -327,8 +327,8 @@ sample267 =
     }
 
 -- seed 0xe64daddb03bdd972, 224 events
-unfoldable pub sample268 : Sample
-sample268 =
+unfoldable pub sample269 : Sample
+sample269 =
     record {
       settings = settings 27 76 10000000 0;
       events =
@@ -490,8 +490,8 @@ sample268 =
     }
 
 -- seed 0x4aec401629358379, 36 events
-unfoldable pub sample269 : Sample
-sample269 =
+unfoldable pub sample270 : Sample
+sample270 =
     record {
       settings = settings 10000000 0 20000000 4611686018427387903;
       events =
@@ -526,8 +526,8 @@ sample269 =
     }
 
 -- seed 0xeb50da2d24ae67c3, 48 events
-unfoldable pub sample270 : Sample
-sample270 =
+unfoldable pub sample271 : Sample
+sample271 =
     record {
       settings = settings 2 4611686018427387903 34 1351387;
       events =
@@ -568,8 +568,8 @@ sample270 =
     }
 
 -- seed 0x4b65e69466d51a14, 243 events
-unfoldable pub sample271 : Sample
-sample271 =
+unfoldable pub sample272 : Sample
+sample272 =
     record {
       settings = settings 700 200 4611686018427387903 72;
       events =
@@ -746,8 +746,8 @@ sample271 =
     }
 
 -- seed 0x94eae7152c77a374, 34 events
-unfoldable pub sample272 : Sample
-sample272 =
+unfoldable pub sample273 : Sample
+sample273 =
     record {
       settings = settings 950 0 4611686018427387903 0;
       events =
@@ -780,8 +780,8 @@ sample272 =
     }
 
 -- seed 0xdd275a427ec2fc4b, 29 events
-unfoldable pub sample273 : Sample
-sample273 =
+unfoldable pub sample274 : Sample
+sample274 =
     record {
       settings = settings 0 1050 0 30000000000;
       events =
@@ -810,8 +810,8 @@ sample273 =
     }
 
 -- seed 0x6961f09f4260cb52, 175 events
-unfoldable pub sample274 : Sample
-sample274 =
+unfoldable pub sample275 : Sample
+sample275 =
     record {
       settings = settings 78 4611686018427387903 4294967296 0;
       events =
@@ -938,8 +938,8 @@ sample274 =
     }
 
 -- seed 0x2251bd3e492e2be7, 50 events
-unfoldable pub sample275 : Sample
-sample275 =
+unfoldable pub sample276 : Sample
+sample276 =
     record {
       settings = settings 0 150 0 2;
       events =
@@ -979,8 +979,8 @@ sample275 =
     }
 
 -- seed 0x9a8d1d27557a5922, 44 events
-unfoldable pub sample276 : Sample
-sample276 =
+unfoldable pub sample277 : Sample
+sample277 =
     record {
       settings = settings 1000000000 36 4294967295 4611686018427387903;
       events =
@@ -1021,8 +1021,8 @@ sample276 =
     }
 
 -- seed 0xecf4654991af7232, 195 events
-unfoldable pub sample277 : Sample
-sample277 =
+unfoldable pub sample278 : Sample
+sample278 =
     record {
       settings = settings 15000000000 29 1 0;
       events =
@@ -1163,8 +1163,8 @@ sample277 =
     }
 
 -- seed 0x59c83a545e9595c3, 50 events
-unfoldable pub sample278 : Sample
-sample278 =
+unfoldable pub sample279 : Sample
+sample279 =
     record {
       settings = settings 32000000 44 12000000000 14000000000;
       events =
@@ -1209,8 +1209,8 @@ sample278 =
     }
 
 -- seed 0x73f05146172d59c1, 4 events
-unfoldable pub sample279 : Sample
-sample279 =
+unfoldable pub sample280 : Sample
+sample280 =
     record {
       settings = settings 6 25000000000 13578 65536;
       events =
@@ -1225,8 +1225,8 @@ sample279 =
     }
 
 -- seed 0xaabc71f61ad2ddc5, 188 events
-unfoldable pub sample280 : Sample
-sample280 =
+unfoldable pub sample281 : Sample
+sample281 =
     record {
       settings = settings 6 4611686018427387903 42 0;
       events =
@@ -1363,8 +1363,8 @@ sample280 =
     }
 
 -- seed 0x6ae6a7f52b8632ab, 57 events
-unfoldable pub sample281 : Sample
-sample281 =
+unfoldable pub sample282 : Sample
+sample282 =
     record {
       settings = settings 500 1 516320438228 0;
       events =
@@ -1416,8 +1416,8 @@ sample281 =
     }
 
 -- seed 0x62f9d450b6e4061a, 59 events
-unfoldable pub sample282 : Sample
-sample282 =
+unfoldable pub sample283 : Sample
+sample283 =
     record {
       settings = settings 4545589791791550338 21 5 70;
       events =
@@ -1469,8 +1469,8 @@ sample282 =
     }
 
 -- seed 0x1ed1d915d6891362, 162 events
-unfoldable pub sample283 : Sample
-sample283 =
+unfoldable pub sample284 : Sample
+sample284 =
     record {
       settings = settings 6000000 16000000 3326 1074974486061291728;
       events =
@@ -1594,8 +1594,8 @@ sample283 =
     }
 
 -- seed 0x8290c3b9191a25ab, 33 events
-unfoldable pub sample284 : Sample
-sample284 =
+unfoldable pub sample285 : Sample
+sample285 =
     record {
       settings = settings 4611686018427387903 4611686018427387903 30000000000 50;
       events =
@@ -1625,8 +1625,8 @@ sample284 =
     }
 
 -- seed 0x6d260b03b678aca8, 18 events
-unfoldable pub sample285 : Sample
-sample285 =
+unfoldable pub sample286 : Sample
+sample286 =
     record {
       settings = settings 4 4611686018427387903 4611686018427387903 20;
       events =
@@ -1649,8 +1649,8 @@ sample285 =
     }
 
 -- seed 0xd29083993bada738, 173 events
-unfoldable pub sample286 : Sample
-sample286 =
+unfoldable pub sample287 : Sample
+sample287 =
     record {
       settings = settings 4611686018427387903 4611686018427387903 12000000 256695954748304;
       events =
@@ -1787,8 +1787,8 @@ sample286 =
     }
 
 -- seed 0x13a816e99a9df78b, 7 events
-unfoldable pub sample287 : Sample
-sample287 =
+unfoldable pub sample288 : Sample
+sample288 =
     record {
       settings = settings 46 0 4611686018427387903 29584029;
       events =
@@ -1804,8 +1804,8 @@ sample287 =
     }
 
 -- seed 0xd2d835bdd62aa5c8, 48 events
-unfoldable pub sample288 : Sample
-sample288 =
+unfoldable pub sample289 : Sample
+sample289 =
     record {
       settings = settings 2 4611686018427387903 26 54;
       events =
@@ -1849,7 +1849,7 @@ sample288 =
 
 abbrev pub damaged : List Sample
 damaged =
-    sample262 ∷ sample263 ∷ sample264 ∷ sample265 ∷ sample266 ∷ sample267 ∷ sample268 ∷ sample269 ∷ sample270 ∷
-    sample271 ∷ sample272 ∷ sample273 ∷ sample274 ∷ sample275 ∷ sample276 ∷ sample277 ∷ sample278 ∷ sample279 ∷
-    sample280 ∷ sample281 ∷ sample282 ∷ sample283 ∷ sample284 ∷ sample285 ∷ sample286 ∷ sample287 ∷ sample288 ∷
+    sample263 ∷ sample264 ∷ sample265 ∷ sample266 ∷ sample267 ∷ sample268 ∷ sample269 ∷ sample270 ∷ sample271 ∷
+    sample272 ∷ sample273 ∷ sample274 ∷ sample275 ∷ sample276 ∷ sample277 ∷ sample278 ∷ sample279 ∷ sample280 ∷
+    sample281 ∷ sample282 ∷ sample283 ∷ sample284 ∷ sample285 ∷ sample286 ∷ sample287 ∷ sample288 ∷ sample289 ∷
     []

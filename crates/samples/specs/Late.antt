@@ -4,8 +4,8 @@ use mathlib.Core.List.{List, [], _∷_}
 use Rattle.rules.specs.Answers.{Sample, event, settings}
 
 -- seed 0xb3466f8a7b81a989, 233 events
-unfoldable pub sample73 : Sample
-sample73 =
+unfoldable pub sample74 : Sample
+sample74 =
     record {
       settings = settings 0 65536 25 4611686018427387903;
       events =
@@ -122,8 +122,8 @@ sample73 =
     }
 
 -- seed 0x12a764fb66abc9cf, 45 events
-unfoldable pub sample74 : Sample
-sample74 =
+unfoldable pub sample75 : Sample
+sample75 =
     record {
       settings = settings 78 4611686018427387903 0 4611686018427387903;
       events =
@@ -154,8 +154,8 @@ sample74 =
     }
 
 -- seed 0xa2df7737091f4f07, 42 events
-unfoldable pub sample75 : Sample
-sample75 =
+unfoldable pub sample76 : Sample
+sample76 =
     record {
       settings = settings 2222449577473767080 4611686018427387903 1 28;
       events =
@@ -185,8 +185,8 @@ sample75 =
     }
 
 -- seed 0xe3830d21dc859216, 92 events
-unfoldable pub sample76 : Sample
-sample76 =
+unfoldable pub sample77 : Sample
+sample77 =
     record {
       settings = settings 4611686018427387903 36 0 15217081807;
       events =
@@ -237,8 +237,8 @@ sample76 =
     }
 
 -- seed 0xe376a9b1a2036b72, 30 events
-unfoldable pub sample77 : Sample
-sample77 =
+unfoldable pub sample78 : Sample
+sample78 =
     record {
       settings = settings 7 6 4611686018427387903 4611686018427387903;
       events =
@@ -261,8 +261,8 @@ sample77 =
     }
 
 -- seed 0xb63e2d8f305c487f, 48 events
-unfoldable pub sample78 : Sample
-sample78 =
+unfoldable pub sample79 : Sample
+sample79 =
     record {
       settings = settings 27 29999999999 753078389403888312 0;
       events =
@@ -292,8 +292,8 @@ sample78 =
     }
 
 -- seed 0x5604229593349fc3, 252 events
-unfoldable pub sample79 : Sample
-sample79 =
+unfoldable pub sample80 : Sample
+sample80 =
     record {
       settings = settings 1 6 0 48;
       events =
@@ -428,8 +428,8 @@ sample79 =
     }
 
 -- seed 0xcc84126a618293ea, 56 events
-unfoldable pub sample80 : Sample
-sample80 =
+unfoldable pub sample81 : Sample
+sample81 =
     record {
       settings = settings 4611686018427387903 12 4611686018427387903 4611686018427387903;
       events =
@@ -465,8 +465,8 @@ sample80 =
     }
 
 -- seed 0x1a998bafd493b9f5, 18 events
-unfoldable pub sample81 : Sample
-sample81 =
+unfoldable pub sample82 : Sample
+sample82 =
     record {
       settings = settings 0 12 96 6;
       events =
@@ -484,8 +484,8 @@ sample81 =
     }
 
 -- seed 0x9686b91ee8c2cf2d, 208 events
-unfoldable pub sample82 : Sample
-sample82 =
+unfoldable pub sample83 : Sample
+sample83 =
     record {
       settings = settings 3 2 14 1100097927010258961;
       events =
@@ -588,8 +588,8 @@ sample82 =
     }
 
 -- seed 0xef8a0d2ce00389c6, 46 events
-unfoldable pub sample83 : Sample
-sample83 =
+unfoldable pub sample84 : Sample
+sample84 =
     record {
       settings = settings 4611686018427387903 0 0 3;
       events =
@@ -618,8 +618,8 @@ sample83 =
     }
 
 -- seed 0x30ec2fb3344507d1, 47 events
-unfoldable pub sample84 : Sample
-sample84 =
+unfoldable pub sample85 : Sample
+sample85 =
     record {
       settings = settings 12 7 25 0;
       events =
@@ -646,8 +646,8 @@ sample84 =
     }
 
 -- seed 0xe3e026319e00dbf5, 88 events
-unfoldable pub sample85 : Sample
-sample85 =
+unfoldable pub sample86 : Sample
+sample86 =
     record {
       settings = settings 0 29 0 4611686018427387903;
       events =
@@ -690,8 +690,8 @@ sample85 =
     }
 
 -- seed 0x1ef58d041ebda4bd, 56 events
-unfoldable pub sample86 : Sample
-sample86 =
+unfoldable pub sample87 : Sample
+sample87 =
     record {
       settings = settings 2591985332050758781 4 0 5;
       events =
@@ -726,8 +726,8 @@ sample86 =
     }
 
 -- seed 0xdf36db5cde98af50, 19 events
-unfoldable pub sample87 : Sample
-sample87 =
+unfoldable pub sample88 : Sample
+sample88 =
     record {
       settings = settings 32 4294967295 34 7;
       events =
@@ -746,8 +746,8 @@ sample87 =
     }
 
 -- seed 0xb97fa785f32ea2a1, 149 events
-unfoldable pub sample88 : Sample
-sample88 =
+unfoldable pub sample89 : Sample
+sample89 =
     record {
       settings = settings 0 4 31 5;
       events =
@@ -821,8 +821,8 @@ sample88 =
     }
 
 -- seed 0xe6182529bb948788, 57 events
-unfoldable pub sample89 : Sample
-sample89 =
+unfoldable pub sample90 : Sample
+sample90 =
     record {
       settings = settings 0 81 4 30;
       events =
@@ -857,8 +857,8 @@ sample89 =
     }
 
 -- seed 0x3645eb729366fe92, 43 events
-unfoldable pub sample90 : Sample
-sample90 =
+unfoldable pub sample91 : Sample
+sample91 =
     record {
       settings = settings 39 6 6 31;
       events =
@@ -885,8 +885,8 @@ sample90 =
     }
 
 -- seed 0xab6b778d04660b18, 223 events
-unfoldable pub sample91 : Sample
-sample91 =
+unfoldable pub sample92 : Sample
+sample92 =
     record {
       settings = settings 4611686018427387903 57 26 12;
       events =
@@ -1024,8 +1024,8 @@ sample91 =
     }
 
 -- seed 0x5ea3f30dd3154cd0, 16 events
-unfoldable pub sample92 : Sample
-sample92 =
+unfoldable pub sample93 : Sample
+sample93 =
     record {
       settings = settings 4611686018427387903 0 23 93;
       events =
@@ -1044,8 +1044,8 @@ sample92 =
     }
 
 -- seed 0x820c624f75598130, 7 events
-unfoldable pub sample93 : Sample
-sample93 =
+unfoldable pub sample94 : Sample
+sample94 =
     record {
       settings = settings 4611686018427387903 7 30 4611686018427387903;
       events =
@@ -1058,8 +1058,8 @@ sample93 =
     }
 
 -- seed 0xdb375250319b3490, 179 events
-unfoldable pub sample94 : Sample
-sample94 =
+unfoldable pub sample95 : Sample
+sample95 =
     record {
       settings = settings 78 0 0 63;
       events =
@@ -1138,8 +1138,8 @@ sample94 =
     }
 
 -- seed 0x92b443d649f77a23, 36 events
-unfoldable pub sample95 : Sample
-sample95 =
+unfoldable pub sample96 : Sample
+sample96 =
     record {
       settings = settings 12 117 4611686018427387903 18;
       events =
@@ -1167,8 +1167,8 @@ sample95 =
     }
 
 -- seed 0x470706707be3ff1, 47 events
-unfoldable pub sample96 : Sample
-sample96 =
+unfoldable pub sample97 : Sample
+sample97 =
     record {
       settings = settings 7 21 69 4611686018427387903;
       events =
@@ -1199,8 +1199,8 @@ sample96 =
     }
 
 -- seed 0x27b65545d6a6dc9e, 228 events
-unfoldable pub sample97 : Sample
-sample97 =
+unfoldable pub sample98 : Sample
+sample98 =
     record {
       settings = settings 12 3 34 5;
       events =
@@ -1313,8 +1313,8 @@ sample97 =
     }
 
 -- seed 0xb264439ad72aeb2f, 22 events
-unfoldable pub sample98 : Sample
-sample98 =
+unfoldable pub sample99 : Sample
+sample99 =
     record {
       settings = settings 15 26 114 84;
       events =
@@ -1335,8 +1335,8 @@ sample98 =
     }
 
 -- seed 0x8a5d5456835114df, 37 events
-unfoldable pub sample99 : Sample
-sample99 =
+unfoldable pub sample100 : Sample
+sample100 =
     record {
       settings = settings 36 0 0 13;
       events =
@@ -1363,7 +1363,7 @@ sample99 =
 
 abbrev pub late : List Sample
 late =
-    sample73 ∷ sample74 ∷ sample75 ∷ sample76 ∷ sample77 ∷ sample78 ∷ sample79 ∷ sample80 ∷ sample81 ∷ sample82 ∷
-    sample83 ∷ sample84 ∷ sample85 ∷ sample86 ∷ sample87 ∷ sample88 ∷ sample89 ∷ sample90 ∷ sample91 ∷ sample92 ∷
-    sample93 ∷ sample94 ∷ sample95 ∷ sample96 ∷ sample97 ∷ sample98 ∷ sample99 ∷
+    sample74 ∷ sample75 ∷ sample76 ∷ sample77 ∷ sample78 ∷ sample79 ∷ sample80 ∷ sample81 ∷ sample82 ∷ sample83 ∷
+    sample84 ∷ sample85 ∷ sample86 ∷ sample87 ∷ sample88 ∷ sample89 ∷ sample90 ∷ sample91 ∷ sample92 ∷ sample93 ∷
+    sample94 ∷ sample95 ∷ sample96 ∷ sample97 ∷ sample98 ∷ sample99 ∷ sample100 ∷
     []

@@ -4,8 +4,8 @@ use mathlib.Core.List.{List, [], _∷_}
 use Rattle.rules.specs.Answers.{Sample, event, settings}
 
 -- seed 0xbeeb8da1658eec67, 85 events
-unfoldable pub sample19 : Sample
-sample19 =
+unfoldable pub sample20 : Sample
+sample20 =
     record {
       settings = settings 1700 4611686018427387903 1570210030654411496 15000000;
       events =
@@ -55,8 +55,8 @@ sample19 =
     }
 
 -- seed 0x71c18690ee42c90b, 26 events
-unfoldable pub sample20 : Sample
-sample20 =
+unfoldable pub sample21 : Sample
+sample21 =
     record {
       settings = settings 34 24 26 34;
       events =
@@ -79,8 +79,8 @@ sample20 =
     }
 
 -- seed 0xc34d0bff90150280, 37 events
-unfoldable pub sample21 : Sample
-sample21 =
+unfoldable pub sample22 : Sample
+sample22 =
     record {
       settings = settings 4294967296 34 1800 40;
       events =
@@ -107,8 +107,8 @@ sample21 =
     }
 
 -- seed 0x85e7bb0f12278575, 125 events
-unfoldable pub sample22 : Sample
-sample22 =
+unfoldable pub sample23 : Sample
+sample23 =
     record {
       settings = settings 1 4463790588070840826 4611686018427387903 40;
       events =
@@ -182,8 +182,8 @@ sample22 =
     }
 
 -- seed 0xcb435c8e74616796, 12 events
-unfoldable pub sample23 : Sample
-sample23 =
+unfoldable pub sample24 : Sample
+sample24 =
     record {
       settings = settings 1 650 4559282730342539428 4611686018427387903;
       events =
@@ -200,8 +200,8 @@ sample23 =
     }
 
 -- seed 0x9afcd44d14cf8bfe, 5 events
-unfoldable pub sample24 : Sample
-sample24 =
+unfoldable pub sample25 : Sample
+sample25 =
     record {
       settings = settings 54 16000000000 4611686018427387903 18000000;
       events =
@@ -214,8 +214,8 @@ sample24 =
     }
 
 -- seed 0x87b341d690d7a28a, 244 events
-unfoldable pub sample25 : Sample
-sample25 =
+unfoldable pub sample26 : Sample
+sample26 =
     record {
       settings = settings 500308 1 26000000 7000000;
       events =
@@ -344,8 +344,8 @@ sample25 =
     }
 
 -- seed 0x2ac2ce17a5794a3b, 28 events
-unfoldable pub sample26 : Sample
-sample26 =
+unfoldable pub sample27 : Sample
+sample27 =
     record {
       settings = settings 34 200 4611686018427387903 2;
       events =
@@ -368,8 +368,8 @@ sample26 =
     }
 
 -- seed 0xd0bad0da572baaf1, 31 events
-unfoldable pub sample27 : Sample
-sample27 =
+unfoldable pub sample28 : Sample
+sample28 =
     record {
       settings = settings 10000000000 0 26000000000 15;
       events =
@@ -396,8 +396,8 @@ sample27 =
     }
 
 -- seed 0xe263183773ef6508, 154 events
-unfoldable pub sample28 : Sample
-sample28 =
+unfoldable pub sample29 : Sample
+sample29 =
     record {
       settings = settings 1 4611686018427387903 4 9000000;
       events =
@@ -482,8 +482,8 @@ sample28 =
     }
 
 -- seed 0x14d7973c5c2a449c, 18 events
-unfoldable pub sample29 : Sample
-sample29 =
+unfoldable pub sample30 : Sample
+sample30 =
     record {
       settings = settings 60 200 22 39000000000;
       events =
@@ -501,8 +501,8 @@ sample29 =
     }
 
 -- seed 0x1f8410633ef306ac, 57 events
-unfoldable pub sample30 : Sample
-sample30 =
+unfoldable pub sample31 : Sample
+sample31 =
     record {
       settings = settings 1700 0 30 950;
       events =
@@ -541,8 +541,8 @@ sample30 =
     }
 
 -- seed 0xc43407dc177b6f7, 143 events
-unfoldable pub sample31 : Sample
-sample31 =
+unfoldable pub sample32 : Sample
+sample32 =
     record {
       settings = settings 10 4611686018427387903 1000 2000000000;
       events =
@@ -622,8 +622,8 @@ sample31 =
     }
 
 -- seed 0xb6b9aeef0d2df7ab, 41 events
-unfoldable pub sample32 : Sample
-sample32 =
+unfoldable pub sample33 : Sample
+sample33 =
     record {
       settings = settings 8 1450 34 9000000;
       events =
@@ -654,8 +654,8 @@ sample32 =
     }
 
 -- seed 0xff6c67e81909778a, 51 events
-unfoldable pub sample33 : Sample
-sample33 =
+unfoldable pub sample34 : Sample
+sample34 =
     record {
       settings = settings 2 0 29999999999 0;
       events =
@@ -691,8 +691,8 @@ sample33 =
     }
 
 -- seed 0x962b1967c90789ba, 96 events
-unfoldable pub sample34 : Sample
-sample34 =
+unfoldable pub sample35 : Sample
+sample35 =
     record {
       settings = settings 0 700 24000000000 150;
       events =
@@ -751,8 +751,8 @@ sample34 =
     }
 
 -- seed 0x70616f2f48dce01c, 17 events
-unfoldable pub sample35 : Sample
-sample35 =
+unfoldable pub sample36 : Sample
+sample36 =
     record {
       settings = settings 0 0 0 65536;
       events =
@@ -769,8 +769,8 @@ sample35 =
     }
 
 -- seed 0x879e2e2256feff0c, 19 events
-unfoldable pub sample36 : Sample
-sample36 =
+unfoldable pub sample37 : Sample
+sample37 =
     record {
       settings = settings 4611686018427387903 4611686018427387903 350 6743683236459;
       events =
@@ -789,8 +789,8 @@ sample36 =
     }
 
 -- seed 0xbf8c59bb003553c1, 253 events
-unfoldable pub sample37 : Sample
-sample37 =
+unfoldable pub sample38 : Sample
+sample38 =
     record {
       settings = settings 4611686018427387903 2 19000000000 750;
       events =
@@ -938,8 +938,8 @@ sample37 =
     }
 
 -- seed 0xab27a171be5b133c, 52 events
-unfoldable pub sample38 : Sample
-sample38 =
+unfoldable pub sample39 : Sample
+sample39 =
     record {
       settings = settings 8530925612261159 5000000000 4611686018427387903 7;
       events =
@@ -976,8 +976,8 @@ sample38 =
     }
 
 -- seed 0xb54b3c40881e2907, 26 events
-unfoldable pub sample39 : Sample
-sample39 =
+unfoldable pub sample40 : Sample
+sample40 =
     record {
       settings = settings 26 850 18 4611686018427387903;
       events =
@@ -998,8 +998,8 @@ sample39 =
     }
 
 -- seed 0xa7ff0d388687ffb2, 195 events
-unfoldable pub sample40 : Sample
-sample40 =
+unfoldable pub sample41 : Sample
+sample41 =
     record {
       settings = settings 62 150 4121575686163911622 0;
       events =
@@ -1105,8 +1105,8 @@ sample40 =
     }
 
 -- seed 0xd6de6acd12c87e38, 37 events
-unfoldable pub sample41 : Sample
-sample41 =
+unfoldable pub sample42 : Sample
+sample42 =
     record {
       settings = settings 4611686018427387903 26 6000000000 35000000000;
       events =
@@ -1136,8 +1136,8 @@ sample41 =
     }
 
 -- seed 0x28bff9ea304d9f96, 58 events
-unfoldable pub sample42 : Sample
-sample42 =
+unfoldable pub sample43 : Sample
+sample43 =
     record {
       settings = settings 42 25000000000 3 24;
       events =
@@ -1174,8 +1174,8 @@ sample42 =
     }
 
 -- seed 0xe9a6100461edd57a, 139 events
-unfoldable pub sample43 : Sample
-sample43 =
+unfoldable pub sample44 : Sample
+sample44 =
     record {
       settings = settings 24000000 9000000 15 6000000000;
       events =
@@ -1254,8 +1254,8 @@ sample43 =
     }
 
 -- seed 0x21af8cfd4c4cbee5, 32 events
-unfoldable pub sample44 : Sample
-sample44 =
+unfoldable pub sample45 : Sample
+sample45 =
     record {
       settings = settings 38 1600 13000000 28;
       events =
@@ -1279,8 +1279,8 @@ sample44 =
     }
 
 -- seed 0xf0af3ce429ca1790, 52 events
-unfoldable pub sample45 : Sample
-sample45 =
+unfoldable pub sample46 : Sample
+sample46 =
     record {
       settings = settings 4 0 257766129842556653 36;
       events =
@@ -1317,7 +1317,7 @@ sample45 =
 
 abbrev pub life : List Sample
 life =
-    sample19 ∷ sample20 ∷ sample21 ∷ sample22 ∷ sample23 ∷ sample24 ∷ sample25 ∷ sample26 ∷ sample27 ∷ sample28 ∷
-    sample29 ∷ sample30 ∷ sample31 ∷ sample32 ∷ sample33 ∷ sample34 ∷ sample35 ∷ sample36 ∷ sample37 ∷ sample38 ∷
-    sample39 ∷ sample40 ∷ sample41 ∷ sample42 ∷ sample43 ∷ sample44 ∷ sample45 ∷
+    sample20 ∷ sample21 ∷ sample22 ∷ sample23 ∷ sample24 ∷ sample25 ∷ sample26 ∷ sample27 ∷ sample28 ∷ sample29 ∷
+    sample30 ∷ sample31 ∷ sample32 ∷ sample33 ∷ sample34 ∷ sample35 ∷ sample36 ∷ sample37 ∷ sample38 ∷ sample39 ∷
+    sample40 ∷ sample41 ∷ sample42 ∷ sample43 ∷ sample44 ∷ sample45 ∷ sample46 ∷
     []

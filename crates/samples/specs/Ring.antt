@@ -4,8 +4,8 @@ use mathlib.Core.List.{List, [], _∷_}
 use Rattle.rules.specs.Answers.{Sample, event, settings}
 
 -- seed 0xbfc846100bfc1e42, 210 events
-unfoldable pub sample46 : Sample
-sample46 =
+unfoldable pub sample47 : Sample
+sample47 =
     record {
       settings = settings 1 15 50 0;
       events =
@@ -134,8 +134,8 @@ sample46 =
     }
 
 -- seed 0xc3f2827affe7f664, 11 events
-unfoldable pub sample47 : Sample
-sample47 =
+unfoldable pub sample48 : Sample
+sample48 =
     record {
       settings = settings 0 44 14 3231409177188666262;
       events =
@@ -152,8 +152,8 @@ sample47 =
     }
 
 -- seed 0x58bc3cb37bc7b2b3, 21 events
-unfoldable pub sample48 : Sample
-sample48 =
+unfoldable pub sample49 : Sample
+sample49 =
     record {
       settings = settings 0 9007199254740992 33 19;
       events =
@@ -173,8 +173,8 @@ sample48 =
     }
 
 -- seed 0xbd34d3aef603e583, 142 events
-unfoldable pub sample49 : Sample
-sample49 =
+unfoldable pub sample50 : Sample
+sample50 =
     record {
       settings = settings 108 67924174854270 4 50;
       events =
@@ -249,8 +249,8 @@ sample49 =
     }
 
 -- seed 0xba450a33ef6ff86c, 27 events
-unfoldable pub sample50 : Sample
-sample50 =
+unfoldable pub sample51 : Sample
+sample51 =
     record {
       settings = settings 56 0 39 4611686018427387903;
       events =
@@ -272,8 +272,8 @@ sample50 =
     }
 
 -- seed 0x701560ad31bb9977, 25 events
-unfoldable pub sample51 : Sample
-sample51 =
+unfoldable pub sample52 : Sample
+sample52 =
     record {
       settings = settings 12 0 64 5;
       events =
@@ -294,8 +294,8 @@ sample51 =
     }
 
 -- seed 0x5fb1940eb8cbf1ae, 157 events
-unfoldable pub sample52 : Sample
-sample52 =
+unfoldable pub sample53 : Sample
+sample53 =
     record {
       settings = settings 0 90 42 0;
       events =
@@ -394,8 +394,8 @@ sample52 =
     }
 
 -- seed 0x34116e681eda3219, 31 events
-unfoldable pub sample53 : Sample
-sample53 =
+unfoldable pub sample54 : Sample
+sample54 =
     record {
       settings = settings 57118457340633252 4 4611686018427387903 75;
       events =
@@ -422,8 +422,8 @@ sample53 =
     }
 
 -- seed 0x5d3e47ecad6ef3d4, 38 events
-unfoldable pub sample54 : Sample
-sample54 =
+unfoldable pub sample55 : Sample
+sample55 =
     record {
       settings = settings 0 4611686018427387903 0 0;
       events =
@@ -450,8 +450,8 @@ sample54 =
     }
 
 -- seed 0x35ceedaace1296d5, 238 events
-unfoldable pub sample55 : Sample
-sample55 =
+unfoldable pub sample56 : Sample
+sample56 =
     record {
       settings = settings 0 16 42 15;
       events =
@@ -557,8 +557,8 @@ sample55 =
     }
 
 -- seed 0x8704799a02f1631d, 13 events
-unfoldable pub sample56 : Sample
-sample56 =
+unfoldable pub sample57 : Sample
+sample57 =
     record {
       settings = settings 855936451845849318 10 69 4611686018427387903;
       events =
@@ -574,8 +574,8 @@ sample56 =
     }
 
 -- seed 0x54a802d271b82a96, 45 events
-unfoldable pub sample57 : Sample
-sample57 =
+unfoldable pub sample58 : Sample
+sample58 =
     record {
       settings = settings 0 4611686018427387903 4 0;
       events =
@@ -607,8 +607,8 @@ sample57 =
     }
 
 -- seed 0xbd80b4cb2ebfa252, 144 events
-unfoldable pub sample58 : Sample
-sample58 =
+unfoldable pub sample59 : Sample
+sample59 =
     record {
       settings = settings 39 4 26 1;
       events =
@@ -676,8 +676,8 @@ sample58 =
     }
 
 -- seed 0x9ea9566e32510720, 10 events
-unfoldable pub sample59 : Sample
-sample59 =
+unfoldable pub sample60 : Sample
+sample60 =
     record {
       settings = settings 22 4611686018427387903 74 0;
       events =
@@ -691,8 +691,8 @@ sample59 =
     }
 
 -- seed 0x4d06d2051c9d6d82, 57 events
-unfoldable pub sample60 : Sample
-sample60 =
+unfoldable pub sample61 : Sample
+sample61 =
     record {
       settings = settings 3 4611686018427387903 4611686018427387903 0;
       events =
@@ -729,8 +729,8 @@ sample60 =
     }
 
 -- seed 0x9a7aa72430f9ca55, 161 events
-unfoldable pub sample61 : Sample
-sample61 =
+unfoldable pub sample62 : Sample
+sample62 =
     record {
       settings = settings 48 0 0 2;
       events =
@@ -816,8 +816,8 @@ sample61 =
     }
 
 -- seed 0x57c883255f0f9e24, 11 events
-unfoldable pub sample62 : Sample
-sample62 =
+unfoldable pub sample63 : Sample
+sample63 =
     record {
       settings = settings 4611686018427387903 84 0 18;
       events =
@@ -833,8 +833,8 @@ sample62 =
     }
 
 -- seed 0x594dac74e9d05dd3, 21 events
-unfoldable pub sample63 : Sample
-sample63 =
+unfoldable pub sample64 : Sample
+sample64 =
     record {
       settings = settings 40 0 22 0;
       events =
@@ -853,8 +853,8 @@ sample63 =
     }
 
 -- seed 0x2bdde9d861af7d1, 176 events
-unfoldable pub sample64 : Sample
-sample64 =
+unfoldable pub sample65 : Sample
+sample65 =
     record {
       settings = settings 54 21 102 4611686018427387903;
       events =
@@ -942,8 +942,8 @@ sample64 =
     }
 
 -- seed 0x391cf0d00f6269a1, 11 events
-unfoldable pub sample65 : Sample
-sample65 =
+unfoldable pub sample66 : Sample
+sample66 =
     record {
       settings = settings 24 0 14 0;
       events =
@@ -958,8 +958,8 @@ sample65 =
     }
 
 -- seed 0x2b3757448c2f7e6a, 26 events
-unfoldable pub sample66 : Sample
-sample66 =
+unfoldable pub sample67 : Sample
+sample67 =
     record {
       settings = settings 14 6 0 16;
       events =
@@ -980,8 +980,8 @@ sample66 =
     }
 
 -- seed 0xad98bc04e64e33b7, 175 events
-unfoldable pub sample67 : Sample
-sample67 =
+unfoldable pub sample68 : Sample
+sample68 =
     record {
       settings = settings 66 57 4 2;
       events =
@@ -1067,8 +1067,8 @@ sample67 =
     }
 
 -- seed 0x6faa36ceb3ac305a, 28 events
-unfoldable pub sample68 : Sample
-sample68 =
+unfoldable pub sample69 : Sample
+sample69 =
     record {
       settings = settings 14 32 4 2;
       events =
@@ -1094,8 +1094,8 @@ sample68 =
     }
 
 -- seed 0xd9d9fe7c79a5c5a0, 29 events
-unfoldable pub sample69 : Sample
-sample69 =
+unfoldable pub sample70 : Sample
+sample70 =
     record {
       settings = settings 37 32 39 0;
       events =
@@ -1117,8 +1117,8 @@ sample69 =
     }
 
 -- seed 0x8cb4863827a66cd3, 86 events
-unfoldable pub sample70 : Sample
-sample70 =
+unfoldable pub sample71 : Sample
+sample71 =
     record {
       settings = settings 32 35 2 4611686018427387903;
       events =
@@ -1168,8 +1168,8 @@ sample70 =
     }
 
 -- seed 0xc069b999d14cb5d7, 13 events
-unfoldable pub sample71 : Sample
-sample71 =
+unfoldable pub sample72 : Sample
+sample72 =
     record {
       settings = settings 4611686018427387903 21 0 102;
       events =
@@ -1187,8 +1187,8 @@ sample71 =
     }
 
 -- seed 0x9839e745b98cdaa6, 59 events
-unfoldable pub sample72 : Sample
-sample72 =
+unfoldable pub sample73 : Sample
+sample73 =
     record {
       settings = settings 39 4611686018427387903 0 76797975065268680;
       events =
@@ -1230,7 +1230,7 @@ sample72 =
 
 abbrev pub ring : List Sample
 ring =
-    sample46 ∷ sample47 ∷ sample48 ∷ sample49 ∷ sample50 ∷ sample51 ∷ sample52 ∷ sample53 ∷ sample54 ∷ sample55 ∷
-    sample56 ∷ sample57 ∷ sample58 ∷ sample59 ∷ sample60 ∷ sample61 ∷ sample62 ∷ sample63 ∷ sample64 ∷ sample65 ∷
-    sample66 ∷ sample67 ∷ sample68 ∷ sample69 ∷ sample70 ∷ sample71 ∷ sample72 ∷
+    sample47 ∷ sample48 ∷ sample49 ∷ sample50 ∷ sample51 ∷ sample52 ∷ sample53 ∷ sample54 ∷ sample55 ∷ sample56 ∷
+    sample57 ∷ sample58 ∷ sample59 ∷ sample60 ∷ sample61 ∷ sample62 ∷ sample63 ∷ sample64 ∷ sample65 ∷ sample66 ∷
+    sample67 ∷ sample68 ∷ sample69 ∷ sample70 ∷ sample71 ∷ sample72 ∷ sample73 ∷
     []
