@@ -240,8 +240,10 @@ struct Scene<'a> {
     carries: u64,
     /// Round trips that meet, so that scores are equal or near.
     trips: [u64; 4],
-    /// Whether pins, and which roles, opens have.
+    /// Opens, in a hundred, that are pinned, that fit and are preferred; their roles.
     pins: u64,
+    fits: u64,
+    preferred: u64,
     roles: &'static [u8],
 }
 
@@ -263,6 +265,8 @@ impl<'a> Scene<'a> {
             carries: 27 + (rng.next() % 65_536 >> rng.below(16)),
             trips: [trip, near(13), near(11), trip.wrapping_add(1) % (1 << 62)],
             pins: rng.pick(&[0, 0, 0, 30]),
+            fits: rng.pick(&[0, 50, 100]),
+            preferred: rng.pick(&[0, 25, 60]),
             roles: rng.pick(&[
                 &[2_u8][..],
                 &[2, 3],
@@ -458,10 +462,16 @@ impl<'a> Scene<'a> {
     fn open_flags(&mut self) -> u8 {
         let role = self.rng.pick(self.roles) << 2;
         let mark = |rng: &mut Rng, percent: u64, bit: u8| u8::from(rng.percent(percent)) << bit;
-        let (rng, pins) = (&mut self.rng, self.pins);
-        let medium = rng.below(4) as u8;
-        let any = medium | role | mark(rng, pins, 4) | mark(rng, 50, 5) | mark(rng, 25, 6);
-        any | mark(rng, 2, 7)
+        let rng = &mut self.rng;
+        let marks = [
+            mark(rng, self.pins, 4),
+            mark(rng, self.fits, 5),
+            mark(rng, self.preferred, 6),
+            mark(rng, 2, 7),
+        ];
+        marks
+            .iter()
+            .fold(role | rng.below(4) as u8, |all, m| all | m)
     }
 
     /// The clock, moved on; or an instant that the path knows, or a rule's distance from one.

@@ -33,6 +33,7 @@ pub fn lists() -> Vec<List> {
         ("tiers and pins", [SECOND; 4], tiers()),
         ("window", [5, 5, 5, 600], window()),
         ("32 samples", [0, 0, LONG - 1, 5], samples()),
+        ("ETX at its limits", [SECOND; 4], limits()),
         ("long settings", [LONG - 1; 4], long()),
     ];
     all.drain(..)
@@ -426,6 +427,26 @@ fn samples() -> Vec<Event> {
         sample(0, 8, 16 * MS),
         choose(1.0),
         sample(0, 9, 30 * MS),
+        choose(1.0),
+    ]);
+    all
+}
+
+/// ETX rises to 100 and no further, and falls to 1: beside it a path that scores 51, 99, then 100.
+fn limits() -> Vec<Event> {
+    let mut all = vec![open(0, 100, 0), open(1, 100, 0), sample(0, 0, 0)];
+    all.extend([sample(1, 0, 5000 * MS), choose(1.0)]);
+    for n in 0..150 {
+        all.push(fold(0, 0));
+        if n % 10 == 9 {
+            all.push(choose(1.0));
+        }
+    }
+    all.extend([sample(1, 2 * SECOND, 9800 * MS), choose(1.0)]);
+    all.extend([
+        sample(1, 4 * SECOND, 9901 * MS),
+        choose(1.0),
+        fold(0, 1),
         choose(1.0),
     ]);
     all

@@ -4,11 +4,7 @@
 use mathlib.Core.Path.{refl}
 use Rattle.total.specs.Values.{negative}
 use Rattle.rules.specs.Answers.{Right, AllRight, answers}
-use Rattle.samples.specs.Choice.{choice, sample209, sample210, sample211, sample212, sample213, sample214, sample215, sample216, sample217, sample218, sample219, sample220, sample221, sample222, sample223, sample224, sample225, sample226, sample227, sample228, sample229, sample230, sample231, sample232, sample233, sample234, sample235}
-
-right209 : Right sample209
-unfolding answers negative sample209
-right209 = refl
+use Rattle.samples.specs.Choice.{choice, sample210, sample211, sample212, sample213, sample214, sample215, sample216, sample217, sample218, sample219, sample220, sample221, sample222, sample223, sample224, sample225, sample226, sample227, sample228, sample229, sample230, sample231, sample232, sample233, sample234, sample235, sample236}
 
 right210 : Right sample210
 unfolding answers negative sample210
@@ -114,5 +110,9 @@ right235 : Right sample235
 unfolding answers negative sample235
 right235 = refl
 
+right236 : Right sample236
+unfolding answers negative sample236
+right236 = refl
+
 pub right : AllRight choice
-right = (right209, (right210, (right211, (right212, (right213, (right214, (right215, (right216, (right217, (right218, (right219, (right220, (right221, (right222, (right223, (right224, (right225, (right226, (right227, (right228, (right229, (right230, (right231, (right232, (right233, (right234, (right235, tt)))))))))))))))))))))))))))
+right = (right210, (right211, (right212, (right213, (right214, (right215, (right216, (right217, (right218, (right219, (right220, (right221, (right222, (right223, (right224, (right225, (right226, (right227, (right228, (right229, (right230, (right231, (right232, (right233, (right234, (right235, (right236, tt)))))))))))))))))))))))))))

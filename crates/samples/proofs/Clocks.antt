@@ -4,11 +4,7 @@
 use mathlib.Core.Path.{refl}
 use Rattle.total.specs.Values.{negative}
 use Rattle.rules.specs.Answers.{Right, AllRight, answers}
-use Rattle.samples.specs.Clocks.{clocks, sample182, sample183, sample184, sample185, sample186, sample187, sample188, sample189, sample190, sample191, sample192, sample193, sample194, sample195, sample196, sample197, sample198, sample199, sample200, sample201, sample202, sample203, sample204, sample205, sample206, sample207, sample208}
-
-right182 : Right sample182
-unfolding answers negative sample182
-right182 = refl
+use Rattle.samples.specs.Clocks.{clocks, sample183, sample184, sample185, sample186, sample187, sample188, sample189, sample190, sample191, sample192, sample193, sample194, sample195, sample196, sample197, sample198, sample199, sample200, sample201, sample202, sample203, sample204, sample205, sample206, sample207, sample208, sample209}
 
 right183 : Right sample183
 unfolding answers negative sample183
@@ -114,5 +110,9 @@ right208 : Right sample208
 unfolding answers negative sample208
 right208 = refl
 
+right209 : Right sample209
+unfolding answers negative sample209
+right209 = refl
+
 pub right : AllRight clocks
-right = (right182, (right183, (right184, (right185, (right186, (right187, (right188, (right189, (right190, (right191, (right192, (right193, (right194, (right195, (right196, (right197, (right198, (right199, (right200, (right201, (right202, (right203, (right204, (right205, (right206, (right207, (right208, tt)))))))))))))))))))))))))))
+right = (right183, (right184, (right185, (right186, (right187, (right188, (right189, (right190, (right191, (right192, (right193, (right194, (right195, (right196, (right197, (right198, (right199, (right200, (right201, (right202, (right203, (right204, (right205, (right206, (right207, (right208, (right209, tt)))))))))))))))))))))))))))

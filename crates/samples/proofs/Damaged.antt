@@ -4,11 +4,7 @@
 use mathlib.Core.Path.{refl}
 use Rattle.total.specs.Values.{negative}
 use Rattle.rules.specs.Answers.{Right, AllRight, answers}
-use Rattle.samples.specs.Damaged.{damaged, sample263, sample264, sample265, sample266, sample267, sample268, sample269, sample270, sample271, sample272, sample273, sample274, sample275, sample276, sample277, sample278, sample279, sample280, sample281, sample282, sample283, sample284, sample285, sample286, sample287, sample288, sample289}
-
-right263 : Right sample263
-unfolding answers negative sample263
-right263 = refl
+use Rattle.samples.specs.Damaged.{damaged, sample264, sample265, sample266, sample267, sample268, sample269, sample270, sample271, sample272, sample273, sample274, sample275, sample276, sample277, sample278, sample279, sample280, sample281, sample282, sample283, sample284, sample285, sample286, sample287, sample288, sample289, sample290}
 
 right264 : Right sample264
 unfolding answers negative sample264
@@ -114,5 +110,9 @@ right289 : Right sample289
 unfolding answers negative sample289
 right289 = refl
 
+right290 : Right sample290
+unfolding answers negative sample290
+right290 = refl
+
 pub right : AllRight damaged
-right = (right263, (right264, (right265, (right266, (right267, (right268, (right269, (right270, (right271, (right272, (right273, (right274, (right275, (right276, (right277, (right278, (right279, (right280, (right281, (right282, (right283, (right284, (right285, (right286, (right287, (right288, (right289, tt)))))))))))))))))))))))))))
+right = (right264, (right265, (right266, (right267, (right268, (right269, (right270, (right271, (right272, (right273, (right274, (right275, (right276, (right277, (right278, (right279, (right280, (right281, (right282, (right283, (right284, (right285, (right286, (right287, (right288, (right289, (right290, tt)))))))))))))))))))))))))))

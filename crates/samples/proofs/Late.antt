@@ -4,11 +4,7 @@
 use mathlib.Core.Path.{refl}
 use Rattle.total.specs.Values.{negative}
 use Rattle.rules.specs.Answers.{Right, AllRight, answers}
-use Rattle.samples.specs.Late.{late, sample74, sample75, sample76, sample77, sample78, sample79, sample80, sample81, sample82, sample83, sample84, sample85, sample86, sample87, sample88, sample89, sample90, sample91, sample92, sample93, sample94, sample95, sample96, sample97, sample98, sample99, sample100}
-
-right74 : Right sample74
-unfolding answers negative sample74
-right74 = refl
+use Rattle.samples.specs.Late.{late, sample75, sample76, sample77, sample78, sample79, sample80, sample81, sample82, sample83, sample84, sample85, sample86, sample87, sample88, sample89, sample90, sample91, sample92, sample93, sample94, sample95, sample96, sample97, sample98, sample99, sample100, sample101}
 
 right75 : Right sample75
 unfolding answers negative sample75
@@ -114,5 +110,9 @@ right100 : Right sample100
 unfolding answers negative sample100
 right100 = refl
 
+right101 : Right sample101
+unfolding answers negative sample101
+right101 = refl
+
 pub right : AllRight late
-right = (right74, (right75, (right76, (right77, (right78, (right79, (right80, (right81, (right82, (right83, (right84, (right85, (right86, (right87, (right88, (right89, (right90, (right91, (right92, (right93, (right94, (right95, (right96, (right97, (right98, (right99, (right100, tt)))))))))))))))))))))))))))
+right = (right75, (right76, (right77, (right78, (right79, (right80, (right81, (right82, (right83, (right84, (right85, (right86, (right87, (right88, (right89, (right90, (right91, (right92, (right93, (right94, (right95, (right96, (right97, (right98, (right99, (right100, (right101, tt)))))))))))))))))))))))))))

@@ -4,11 +4,7 @@
 use mathlib.Core.Path.{refl}
 use Rattle.total.specs.Values.{negative}
 use Rattle.rules.specs.Answers.{Right, AllRight, answers}
-use Rattle.samples.specs.Life.{life, sample20, sample21, sample22, sample23, sample24, sample25, sample26, sample27, sample28, sample29, sample30, sample31, sample32, sample33, sample34, sample35, sample36, sample37, sample38, sample39, sample40, sample41, sample42, sample43, sample44, sample45, sample46}
-
-right20 : Right sample20
-unfolding answers negative sample20
-right20 = refl
+use Rattle.samples.specs.Life.{life, sample21, sample22, sample23, sample24, sample25, sample26, sample27, sample28, sample29, sample30, sample31, sample32, sample33, sample34, sample35, sample36, sample37, sample38, sample39, sample40, sample41, sample42, sample43, sample44, sample45, sample46, sample47}
 
 right21 : Right sample21
 unfolding answers negative sample21
@@ -114,5 +110,9 @@ right46 : Right sample46
 unfolding answers negative sample46
 right46 = refl
 
+right47 : Right sample47
+unfolding answers negative sample47
+right47 = refl
+
 pub right : AllRight life
-right = (right20, (right21, (right22, (right23, (right24, (right25, (right26, (right27, (right28, (right29, (right30, (right31, (right32, (right33, (right34, (right35, (right36, (right37, (right38, (right39, (right40, (right41, (right42, (right43, (right44, (right45, (right46, tt)))))))))))))))))))))))))))
+right = (right21, (right22, (right23, (right24, (right25, (right26, (right27, (right28, (right29, (right30, (right31, (right32, (right33, (right34, (right35, (right36, (right37, (right38, (right39, (right40, (right41, (right42, (right43, (right44, (right45, (right46, (right47, tt)))))))))))))))))))))))))))

@@ -4,7 +4,7 @@
 use mathlib.Core.Path.{refl}
 use Rattle.total.specs.Values.{negative}
 use Rattle.rules.specs.Answers.{Right, AllRight, answers}
-use Rattle.samples.specs.Papers.{papers, sample0, sample1, sample2, sample3, sample4, sample5, sample6, sample7, sample8, sample9, sample10, sample11, sample12, sample13, sample14, sample15, sample16, sample17, sample18, sample19}
+use Rattle.samples.specs.Papers.{papers, sample0, sample1, sample2, sample3, sample4, sample5, sample6, sample7, sample8, sample9, sample10, sample11, sample12, sample13, sample14, sample15, sample16, sample17, sample18, sample19, sample20}
 
 right0 : Right sample0
 unfolding answers negative sample0
@@ -86,5 +86,9 @@ right19 : Right sample19
 unfolding answers negative sample19
 right19 = refl
 
+right20 : Right sample20
+unfolding answers negative sample20
+right20 = refl
+
 pub right : AllRight papers
-right = (right0, (right1, (right2, (right3, (right4, (right5, (right6, (right7, (right8, (right9, (right10, (right11, (right12, (right13, (right14, (right15, (right16, (right17, (right18, (right19, tt))))))))))))))))))))
+right = (right0, (right1, (right2, (right3, (right4, (right5, (right6, (right7, (right8, (right9, (right10, (right11, (right12, (right13, (right14, (right15, (right16, (right17, (right18, (right19, (right20, tt)))))))))))))))))))))

@@ -4,11 +4,7 @@
 use mathlib.Core.Path.{refl}
 use Rattle.total.specs.Values.{negative}
 use Rattle.rules.specs.Answers.{Right, AllRight, answers}
-use Rattle.samples.specs.Ring.{ring, sample47, sample48, sample49, sample50, sample51, sample52, sample53, sample54, sample55, sample56, sample57, sample58, sample59, sample60, sample61, sample62, sample63, sample64, sample65, sample66, sample67, sample68, sample69, sample70, sample71, sample72, sample73}
-
-right47 : Right sample47
-unfolding answers negative sample47
-right47 = refl
+use Rattle.samples.specs.Ring.{ring, sample48, sample49, sample50, sample51, sample52, sample53, sample54, sample55, sample56, sample57, sample58, sample59, sample60, sample61, sample62, sample63, sample64, sample65, sample66, sample67, sample68, sample69, sample70, sample71, sample72, sample73, sample74}
 
 right48 : Right sample48
 unfolding answers negative sample48
@@ -114,5 +110,9 @@ right73 : Right sample73
 unfolding answers negative sample73
 right73 = refl
 
+right74 : Right sample74
+unfolding answers negative sample74
+right74 = refl
+
 pub right : AllRight ring
-right = (right47, (right48, (right49, (right50, (right51, (right52, (right53, (right54, (right55, (right56, (right57, (right58, (right59, (right60, (right61, (right62, (right63, (right64, (right65, (right66, (right67, (right68, (right69, (right70, (right71, (right72, (right73, tt)))))))))))))))))))))))))))
+right = (right48, (right49, (right50, (right51, (right52, (right53, (right54, (right55, (right56, (right57, (right58, (right59, (right60, (right61, (right62, (right63, (right64, (right65, (right66, (right67, (right68, (right69, (right70, (right71, (right72, (right73, (right74, tt)))))))))))))))))))))))))))

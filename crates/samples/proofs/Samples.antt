@@ -4,11 +4,7 @@
 use mathlib.Core.Path.{refl}
 use Rattle.total.specs.Values.{negative}
 use Rattle.rules.specs.Answers.{Right, AllRight, answers}
-use Rattle.samples.specs.Samples.{samples, sample236, sample237, sample238, sample239, sample240, sample241, sample242, sample243, sample244, sample245, sample246, sample247, sample248, sample249, sample250, sample251, sample252, sample253, sample254, sample255, sample256, sample257, sample258, sample259, sample260, sample261, sample262}
-
-right236 : Right sample236
-unfolding answers negative sample236
-right236 = refl
+use Rattle.samples.specs.Samples.{samples, sample237, sample238, sample239, sample240, sample241, sample242, sample243, sample244, sample245, sample246, sample247, sample248, sample249, sample250, sample251, sample252, sample253, sample254, sample255, sample256, sample257, sample258, sample259, sample260, sample261, sample262, sample263}
 
 right237 : Right sample237
 unfolding answers negative sample237
@@ -114,5 +110,9 @@ right262 : Right sample262
 unfolding answers negative sample262
 right262 = refl
 
+right263 : Right sample263
+unfolding answers negative sample263
+right263 = refl
+
 pub right : AllRight samples
-right = (right236, (right237, (right238, (right239, (right240, (right241, (right242, (right243, (right244, (right245, (right246, (right247, (right248, (right249, (right250, (right251, (right252, (right253, (right254, (right255, (right256, (right257, (right258, (right259, (right260, (right261, (right262, tt)))))))))))))))))))))))))))
+right = (right237, (right238, (right239, (right240, (right241, (right242, (right243, (right244, (right245, (right246, (right247, (right248, (right249, (right250, (right251, (right252, (right253, (right254, (right255, (right256, (right257, (right258, (right259, (right260, (right261, (right262, (right263, tt)))))))))))))))))))))))))))

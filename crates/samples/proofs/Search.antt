@@ -4,11 +4,7 @@
 use mathlib.Core.Path.{refl}
 use Rattle.total.specs.Values.{negative}
 use Rattle.rules.specs.Answers.{Right, AllRight, answers}
-use Rattle.samples.specs.Search.{search, sample128, sample129, sample130, sample131, sample132, sample133, sample134, sample135, sample136, sample137, sample138, sample139, sample140, sample141, sample142, sample143, sample144, sample145, sample146, sample147, sample148, sample149, sample150, sample151, sample152, sample153, sample154}
-
-right128 : Right sample128
-unfolding answers negative sample128
-right128 = refl
+use Rattle.samples.specs.Search.{search, sample129, sample130, sample131, sample132, sample133, sample134, sample135, sample136, sample137, sample138, sample139, sample140, sample141, sample142, sample143, sample144, sample145, sample146, sample147, sample148, sample149, sample150, sample151, sample152, sample153, sample154, sample155}
 
 right129 : Right sample129
 unfolding answers negative sample129
@@ -114,5 +110,9 @@ right154 : Right sample154
 unfolding answers negative sample154
 right154 = refl
 
+right155 : Right sample155
+unfolding answers negative sample155
+right155 = refl
+
 pub right : AllRight search
-right = (right128, (right129, (right130, (right131, (right132, (right133, (right134, (right135, (right136, (right137, (right138, (right139, (right140, (right141, (right142, (right143, (right144, (right145, (right146, (right147, (right148, (right149, (right150, (right151, (right152, (right153, (right154, tt)))))))))))))))))))))))))))
+right = (right129, (right130, (right131, (right132, (right133, (right134, (right135, (right136, (right137, (right138, (right139, (right140, (right141, (right142, (right143, (right144, (right145, (right146, (right147, (right148, (right149, (right150, (right151, (right152, (right153, (right154, (right155, tt)))))))))))))))))))))))))))

@@ -4,11 +4,7 @@
 use mathlib.Core.Path.{refl}
 use Rattle.total.specs.Values.{negative}
 use Rattle.rules.specs.Answers.{Right, AllRight, answers}
-use Rattle.samples.specs.Sizes.{sizes, sample155, sample156, sample157, sample158, sample159, sample160, sample161, sample162, sample163, sample164, sample165, sample166, sample167, sample168, sample169, sample170, sample171, sample172, sample173, sample174, sample175, sample176, sample177, sample178, sample179, sample180, sample181}
-
-right155 : Right sample155
-unfolding answers negative sample155
-right155 = refl
+use Rattle.samples.specs.Sizes.{sizes, sample156, sample157, sample158, sample159, sample160, sample161, sample162, sample163, sample164, sample165, sample166, sample167, sample168, sample169, sample170, sample171, sample172, sample173, sample174, sample175, sample176, sample177, sample178, sample179, sample180, sample181, sample182}
 
 right156 : Right sample156
 unfolding answers negative sample156
@@ -114,5 +110,9 @@ right181 : Right sample181
 unfolding answers negative sample181
 right181 = refl
 
+right182 : Right sample182
+unfolding answers negative sample182
+right182 = refl
+
 pub right : AllRight sizes
-right = (right155, (right156, (right157, (right158, (right159, (right160, (right161, (right162, (right163, (right164, (right165, (right166, (right167, (right168, (right169, (right170, (right171, (right172, (right173, (right174, (right175, (right176, (right177, (right178, (right179, (right180, (right181, tt)))))))))))))))))))))))))))
+right = (right156, (right157, (right158, (right159, (right160, (right161, (right162, (right163, (right164, (right165, (right166, (right167, (right168, (right169, (right170, (right171, (right172, (right173, (right174, (right175, (right176, (right177, (right178, (right179, (right180, (right181, (right182, tt)))))))))))))))))))))))))))

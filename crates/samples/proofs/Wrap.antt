@@ -4,11 +4,7 @@
 use mathlib.Core.Path.{refl}
 use Rattle.total.specs.Values.{negative}
 use Rattle.rules.specs.Answers.{Right, AllRight, answers}
-use Rattle.samples.specs.Wrap.{wrap, sample101, sample102, sample103, sample104, sample105, sample106, sample107, sample108, sample109, sample110, sample111, sample112, sample113, sample114, sample115, sample116, sample117, sample118, sample119, sample120, sample121, sample122, sample123, sample124, sample125, sample126, sample127}
-
-right101 : Right sample101
-unfolding answers negative sample101
-right101 = refl
+use Rattle.samples.specs.Wrap.{wrap, sample102, sample103, sample104, sample105, sample106, sample107, sample108, sample109, sample110, sample111, sample112, sample113, sample114, sample115, sample116, sample117, sample118, sample119, sample120, sample121, sample122, sample123, sample124, sample125, sample126, sample127, sample128}
 
 right102 : Right sample102
 unfolding answers negative sample102
@@ -114,5 +110,9 @@ right127 : Right sample127
 unfolding answers negative sample127
 right127 = refl
 
+right128 : Right sample128
+unfolding answers negative sample128
+right128 = refl
+
 pub right : AllRight wrap
-right = (right101, (right102, (right103, (right104, (right105, (right106, (right107, (right108, (right109, (right110, (right111, (right112, (right113, (right114, (right115, (right116, (right117, (right118, (right119, (right120, (right121, (right122, (right123, (right124, (right125, (right126, (right127, tt)))))))))))))))))))))))))))
+right = (right102, (right103, (right104, (right105, (right106, (right107, (right108, (right109, (right110, (right111, (right112, (right113, (right114, (right115, (right116, (right117, (right118, (right119, (right120, (right121, (right122, (right123, (right124, (right125, (right126, (right127, (right128, tt)))))))))))))))))))))))))))
