@@ -3,7 +3,8 @@
 // The longest length in bytes; a longer one is refused with 5.
 pub const MAX_LEN: u32 = 65535;
 
-// The smallest size of a probe: full and proved sizes below it are refused with 5, and what is proven lies above it or is it.
+// The smallest size of a probe: full and proved sizes below it are refused with 5, and what is proven lies above it or
+// is it.
 pub const PATH_PROBE_MIN_SIZE: u16 = 27;
 
 // The same as the length that a caller names.

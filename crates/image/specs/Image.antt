@@ -57,7 +57,7 @@ abbrev pub lenOrZero : MaybeLen → ℕ
 lenOrZero len.None = 0
 lenOrZero (len.Some n) = n
 
--- a place of the ring or of the late list; a free one is five zeros
+-- a place of the ring or of the late list: used, then what stands there, which says nothing where it is not used
 abbrev pub sentWords : Sent → List ℕ
 sentWords s = flagOf (s .used) ∷ s .«probe_id» ∷ s .at ∷ s .due ∷ s .len ∷ []
 
@@ -84,11 +84,11 @@ abbrev pub trafficWords : Traffic → List ℕ
 trafficWords t =
     t .frames ∷ t .bytes ∷ timeTag (t .«heard_at») ∷ timeOrZero (t .«heard_at») ∷ timeTag (t .«data_at») ∷ timeOrZero (t .«data_at») ∷ []
 
--- a sample; an empty place is three zeros
+-- a place of the samples: used, then what stands there
 abbrev pub sampleWords : Sample → List ℕ
 sampleWords s = flagOf (s .used) ∷ s .at ∷ s .rtt ∷ []
 
--- a span; an empty place is four zeros
+-- a place of the spans: used, then what stands there
 abbrev pub spanWords : Span → List ℕ
 spanWords s = flagOf (s .used) ∷ s .from ∷ s .to ∷ s .rtt ∷ []
 
@@ -106,7 +106,7 @@ countsWords misses ladder sizes traffic = sizeWords misses ladder sizes ++ traff
 
 -- the last RTT, the samples, the spans
 unfoldable pub rttsWords : Rtts → List ℕ
-rttsWords r = timeWords (r .rtt) ++ flat sampleWords (r .rtts) ++ flat spanWords (r .spans)
+rttsWords r = timeWords (r .rtt) ++ flat sampleWords (r .samples) ++ flat spanWords (r .spans)
 
 -- all that stands before the RTTs: the ring, the late list, the marks, the counts
 unfoldable pub frontWords : Liveness → List ℕ

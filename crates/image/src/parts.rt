@@ -51,8 +51,8 @@ fn write_late(out: &mut [u8], late: [Sent; LATE]) -> bool
 }
 
 // The samples.
-fn write_samples(out: &mut [u8], rtts: [Sample; SAMPLES]) -> bool
-    ensures { λ r. ⌜ (r ≡ leb 768 (length (now (out .entry)))) × (now (out .exit) ≡ over (wordsOf (flat sampleWords rtts)) (now (out .entry))) ⌝ }
+fn write_samples(out: &mut [u8], samples: [Sample; SAMPLES]) -> bool
+    ensures { λ r. ⌜ (r ≡ leb 768 (length (now (out .entry)))) × (now (out .exit) ≡ over (wordsOf (flat sampleWords samples)) (now (out .entry))) ⌝ }
 {
     if out.len() < 768 {
         return false;
@@ -60,7 +60,7 @@ fn write_samples(out: &mut [u8], rtts: [Sample; SAMPLES]) -> bool
     let mut i = 0;
     let mut at = 0;
     while i < SAMPLES {
-        let s = rtts[i];
+        let s = samples[i];
         let w = sample_words(s);
         put_words(&mut out[at..], &w);
         at += 24;
@@ -97,10 +97,10 @@ pub fn write_rtts(out: &mut [u8], r: Rtts) -> bool
     }
     let last = r.rtt;
     let w = time_words(last);
-    let rtts = r.rtts;
+    let samples = r.samples;
     let spans = r.spans;
     put_words(&mut out[0..], &w);
-    write_samples(&mut out[16..], rtts);
+    write_samples(&mut out[16..], samples);
     write_spans(&mut out[784..], spans);
     true
 }

@@ -29,7 +29,7 @@ fn id_value(x: MaybeId) -> u64
 }
 
 // Whether there is an instant or a duration.
-fn time_tag(x: MaybeTime) -> u64
+pub fn time_tag(x: MaybeTime) -> u64
     ensures { λ r. ⌜ r ≡ timeTag x ⌝ }
 {
     match x {
@@ -39,7 +39,7 @@ fn time_tag(x: MaybeTime) -> u64
 }
 
 // The instant or the duration, or 0.
-fn time_value(x: MaybeTime) -> u64
+pub fn time_value(x: MaybeTime) -> u64
     ensures { λ r. ⌜ r ≡ timeOrZero x ⌝ }
 {
     match x {
@@ -49,7 +49,7 @@ fn time_value(x: MaybeTime) -> u64
 }
 
 // Whether there is a length.
-fn len_tag(x: MaybeLen) -> u64
+pub fn len_tag(x: MaybeLen) -> u64
     ensures { λ r. ⌜ r ≡ lenTag x ⌝ }
 {
     match x {
@@ -59,7 +59,7 @@ fn len_tag(x: MaybeLen) -> u64
 }
 
 // The length, or 0.
-fn len_value(x: MaybeLen) -> u64
+pub fn len_value(x: MaybeLen) -> u64
     ensures { λ r. ⌜ r ≡ lenOrZero x ⌝ }
 {
     match x {

@@ -102,19 +102,19 @@ impl Liveness {
 
     // The least round trip among the window's samples.
     pub fn min_rtt(self) -> MaybeTime
-        ensures { λ r. ⌜ r ≡ minRtt (self .rtts .rtts) ⌝ }
+        ensures { λ r. ⌜ r ≡ minRtt (self .rtts .samples) ⌝ }
     {
         let rtts = self.rtts;
-        let samples = rtts.rtts;
+        let samples = rtts.samples;
         rtt::window::min_rtt(samples)
     }
 
     // The largest round trip among the window's samples.
     pub fn max_rtt(self) -> MaybeTime
-        ensures { λ r. ⌜ r ≡ maxRtt (self .rtts .rtts) ⌝ }
+        ensures { λ r. ⌜ r ≡ maxRtt (self .rtts .samples) ⌝ }
     {
         let rtts = self.rtts;
-        let samples = rtts.rtts;
+        let samples = rtts.samples;
         rtt::window::max_rtt(samples)
     }
 
@@ -129,10 +129,10 @@ impl Liveness {
 
     // Round-trip samples in the window.
     pub fn samples(self) -> usize
-        ensures { λ r. ⌜ r ≡ samplesOf (self .rtts .rtts) ⌝ }
+        ensures { λ r. ⌜ r ≡ samplesOf (self .rtts .samples) ⌝ }
     {
         let rtts = self.rtts;
-        let samples = rtts.rtts;
+        let samples = rtts.samples;
         rtt::window::samples(samples)
     }
 

@@ -8,9 +8,9 @@ use Rattle.rtt.specs.declared.types.Rtts.{Rtts}
 
 -- nothing measured
 abbrev pub newRtts : Rtts
-newRtts = record { rtts = replicate maxSamples noSample; spans = replicate maxSpans noSpan; rtt = None }
+newRtts = record { samples = replicate maxSamples noSample; spans = replicate maxSpans noSpan; rtt = None }
 
 -- a round trip of x measured now: the latest, among the samples, and in a span
 abbrev pub sampledRtts : Rtts → ℕ → ℕ → ℕ → ℕ → Rtts
 sampledRtts r now x window horizon =
-    record { rtts = withSample now x window (r .rtts); spans = spanOf now x horizon (r .spans); rtt = Some x }
+    record { samples = withSample now x window (r .samples); spans = spanOf now x horizon (r .spans); rtt = Some x }

@@ -3,14 +3,13 @@
 use Prim.Native.Nat.{ℕ}
 use mathlib.Core.List.{List, map}
 use mathlib.Core.Bool.{Bool, true, false, cond, _&&_}
-use lib.Dec.{leb, ltb}
+use lib.Dec.{ltb}
 use lib.ListN.{length, set}
 use Rattle.base.specs.Seq.{keep}
 use Rattle.base.specs.Marked.{place, firstLeader}
 use Rattle.base.specs.Time.{elapsedOf}
 use Rattle.base.specs.declared.types.MaybeTime.{MaybeTime}
-use Rattle.base.specs.Least.{leastOf}
-use Rattle.rtt.specs.Times.{largestOf}
+use Rattle.base.specs.Least.{leastOf, largestOf}
 use Rattle.rtt.specs.declared.types.Sample.{Sample}
 
 -- how many samples the window keeps, `SAMPLES`
@@ -37,17 +36,17 @@ keptSample now window s = cond (isOld now window s) noSample s
 abbrev pub keptSamples : ℕ → ℕ → List Sample → List Sample
 keptSamples now window l = map (keptSample now window) l
 
--- the order by age: s was taken before t or at the same instant
-abbrev pub sampleNoLater : Sample → Sample → Bool
-sampleNoLater s t = leb (s .at) (t .at)
+-- the order by age: s was taken before t
+abbrev pub sampleEarlier : Sample → Sample → Bool
+sampleEarlier s t = ltb (s .at) (t .at)
 
 -- the place of the oldest sample (first of equals), or the length where there is none
 abbrev pub oldestSample : List Sample → ℕ
-oldestSample l = firstLeader isSample sampleNoLater l
+oldestSample l = firstLeader isSample sampleEarlier l
 
 -- the first gap, else the oldest's place
 abbrev pub samplePlace : List Sample → ℕ
-samplePlace l = place isSample sampleNoLater l
+samplePlace l = place isSample sampleEarlier l
 
 -- a round trip measured now
 abbrev pub newSample : ℕ → ℕ → Sample

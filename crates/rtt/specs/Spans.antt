@@ -4,7 +4,7 @@
 use Prim.Native.Nat.{ℕ, _/_, min}
 use mathlib.Core.List.{List, map}
 use mathlib.Core.Bool.{Bool, true, false, cond, _&&_}
-use lib.Dec.{leb, ltb}
+use lib.Dec.{ltb}
 use lib.ListN.{getD, set}
 use Rattle.base.specs.Seq.{keep}
 use Rattle.base.specs.Marked.{place, firstLeader, lastLeader}
@@ -37,25 +37,25 @@ keptSpan now horizon s = cond (isPast now horizon s) noSpan s
 abbrev pub keptSpans : ℕ → ℕ → List Span → List Span
 keptSpans now horizon l = map (keptSpan now horizon) l
 
--- the order by age: s began before t or at the same instant
-abbrev pub spanNoLater : Span → Span → Bool
-spanNoLater s t = leb (s .from) (t .from)
+-- the order by age: s began before t
+abbrev pub spanEarlier : Span → Span → Bool
+spanEarlier s t = ltb (s .from) (t .from)
 
--- the order by age, turned round: s began after t or at the same instant
-abbrev pub spanNoEarlier : Span → Span → Bool
-spanNoEarlier s t = leb (t .from) (s .from)
+-- the order by age, turned round: s began after t
+abbrev pub spanLater : Span → Span → Bool
+spanLater s t = ltb (t .from) (s .from)
 
 -- the place of the newest span (last of equals), or the length where there is none
 abbrev pub newestSpan : List Span → ℕ
-newestSpan l = lastLeader isSpan spanNoEarlier l
+newestSpan l = lastLeader isSpan spanLater l
 
 -- the place of the oldest span (first of equals), or the length where there is none
 abbrev pub oldestSpan : List Span → ℕ
-oldestSpan l = firstLeader isSpan spanNoLater l
+oldestSpan l = firstLeader isSpan spanEarlier l
 
 -- the first gap or the oldest's place
 abbrev pub spanPlace : List Span → ℕ
-spanPlace l = place isSpan spanNoLater l
+spanPlace l = place isSpan spanEarlier l
 
 -- there is such a span, and now - from < horizon/6, rounded down
 abbrev pub joinsOf : ℕ → ℕ → Span → Bool

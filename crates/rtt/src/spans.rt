@@ -1,8 +1,9 @@
 // The 8 spans of the horizon.
 ghost use mathlib.Core.Path.{_≡_};
 ghost use Prim.Native.Nat.{_<_};
-ghost use Rattle.base.specs.Marked.{firstGap, overtakes, catches};
-ghost use Rattle.rtt.specs.Spans.{maxSpans, isPast, keptSpan, keptSpans, isSpan, spanNoLater, spanNoEarlier, oldestSpan, newestSpan, spanPlace, joinsOf, joinedOf, openedOf, spanOf, baseRtt};
+ghost use Rattle.base.specs.Marked.{firstGap};
+ghost use Rattle.base.specs.Passes.{overtakes, catches};
+ghost use Rattle.rtt.specs.Spans.{maxSpans, isPast, keptSpan, keptSpans, isSpan, spanEarlier, spanLater, oldestSpan, newestSpan, spanPlace, joinsOf, joinedOf, openedOf, spanOf, baseRtt};
 use crate::types::SPANS;
 use crate::types::Span;
 use base::types::MaybeTime;
@@ -55,7 +56,7 @@ fn first_gap(spans: [Span; SPANS]) -> usize
 
 // Whether a span takes the place of the oldest found so far: of equals the first stays.
 fn older(s: Span, oldest: Span) -> bool
-    ensures { λ r. ⌜ r ≡ overtakes isSpan spanNoLater s oldest ⌝ }
+    ensures { λ r. ⌜ r ≡ overtakes isSpan spanEarlier s oldest ⌝ }
 {
     s.used & (!oldest.used | (s.from < oldest.from))
 }
@@ -81,7 +82,7 @@ fn oldest(spans: [Span; SPANS]) -> usize
 
 // Whether a span takes the place of the newest found so far: of equals the last does.
 fn newer(s: Span, newest: Span) -> bool
-    ensures { λ r. ⌜ r ≡ catches isSpan spanNoEarlier s newest ⌝ }
+    ensures { λ r. ⌜ r ≡ catches isSpan spanLater s newest ⌝ }
 {
     s.used & (!newest.used | (newest.from <= s.from))
 }
@@ -130,7 +131,7 @@ fn joined(s: Span, now: u64, rtt: u64) -> Span
     Span {
         from: s.from,
         to: now,
-        rtt: base::time::smaller(s.rtt, rtt),
+        rtt: base::num::min_u64(s.rtt, rtt),
         used: true,
     }
 }

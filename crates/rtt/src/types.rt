@@ -28,7 +28,7 @@ pub struct Span {
 
 // The samples of the window, the spans of the horizon, and the latest round trip.
 pub struct Rtts {
-    pub rtts: [Sample; SAMPLES],
+    pub samples: [Sample; SAMPLES],
     pub spans: [Span; SPANS],
     pub rtt: MaybeTime,
 }
@@ -67,11 +67,11 @@ impl Rtts {
     {
         let sample = Sample::none();
         let span = Span::none();
-        let rtts = [sample; SAMPLES];
+        let samples = [sample; SAMPLES];
         let spans = [span; SPANS];
         let rtt = MaybeTime::None;
         Rtts {
-            rtts: rtts,
+            samples: samples,
             spans: spans,
             rtt: rtt,
         }

@@ -1,8 +1,9 @@
 // The 32 samples of the window.
 ghost use mathlib.Core.Path.{_≡_};
 ghost use Prim.Native.Nat.{_<_};
-ghost use Rattle.base.specs.Marked.{firstGap, overtakes};
-ghost use Rattle.rtt.specs.Samples.{maxSamples, isOld, keptSample, keptSamples, isSample, sampleNoLater, oldestSample, samplePlace, withSample, minRtt, maxRtt, samplesOf};
+ghost use Rattle.base.specs.Marked.{firstGap};
+ghost use Rattle.base.specs.Passes.{overtakes};
+ghost use Rattle.rtt.specs.Samples.{maxSamples, isOld, keptSample, keptSamples, isSample, sampleEarlier, oldestSample, samplePlace, withSample, minRtt, maxRtt, samplesOf};
 use crate::types::SAMPLES;
 use crate::types::Sample;
 use base::types::MaybeTime;
@@ -55,7 +56,7 @@ fn first_gap(rtts: [Sample; SAMPLES]) -> usize
 
 // Whether a sample takes the place of the oldest found so far: of equals the first stays.
 fn older(s: Sample, oldest: Sample) -> bool
-    ensures { λ r. ⌜ r ≡ overtakes isSample sampleNoLater s oldest ⌝ }
+    ensures { λ r. ⌜ r ≡ overtakes isSample sampleEarlier s oldest ⌝ }
 {
     s.used & (!oldest.used | (s.at < oldest.at))
 }
@@ -130,7 +131,7 @@ pub fn max_rtt(rtts: [Sample; SAMPLES]) -> MaybeTime
         let s = rtts[i];
         i += 1;
         if s.used {
-            largest = crate::times::higher(largest, s.rtt);
+            largest = base::time::higher(largest, s.rtt);
         }
     }
     largest

@@ -15,7 +15,7 @@ use Rattle.seek.specs.declared.types.Seek.{Seek}
 use Rattle.seek.specs.declared.types.Sizes.{Sizes}
 use Rattle.seek.specs.declared.types.Proved.{Proved}
 use Rattle.seek.specs.declared.types.Judged.{Judged}
-use Rattle.seek.proofs.TestLaws.{cond-same, turned}
+use Rattle.base.proofs.Cases.{cond-same, turned}
 
 -- nothing proven, nothing proposed
 pub none-proven : (b : Bool) (lost full : ℕ) {p : MaybeLen} → p ≡ None → None ≡ cond b (proposeOf lost p full) None

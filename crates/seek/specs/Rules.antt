@@ -1,8 +1,9 @@
 -- The size search on sizes alone, with no clock and no identifiers (document 01, "Size search"). A lost size of 0 is none; the least
 -- provable size, 27, is an argument.
-use mathlib.Core.Bool.{Bool, not, cond, _&&_}
+use mathlib.Core.Bool.{Bool, true, not, cond, _&&_}
 use Prim.Native.Nat.{ℕ, _+_, _-_, _/_, min}
 use lib.Dec.{ltb, leb, eqb}
+use Rattle.base.specs.Limits.{isOverlong, isUndersize}
 use Rattle.base.specs.declared.types.MaybeLen.{MaybeLen}
 use Rattle.base.specs.declared.types.MaybeLen.the-variants.{None, Some}
 
@@ -24,6 +25,11 @@ risesOf least (Some proven) size = ltb least size && ltb proven size
 -- and proven after it
 abbrev pub raisedOf : ℕ → MaybeLen → ℕ → MaybeLen
 raisedOf least proven size = cond (risesOf least proven size) (Some size) proven
+
+-- a proven size is at least 27 and at most 65,535: `raised-within` of proofs/ProvenLaws.antt keeps it
+abbrev pub isProvable : MaybeLen → Bool
+isProvable None = true
+isProvable (Some proven) = not (isUndersize proven) && not (isOverlong proven)
 
 -- "Lost keeps the smaller size."
 abbrev pub lostWith : ℕ → ℕ → ℕ

@@ -5,6 +5,9 @@ use crate::types::*;
 use base::limits::PATH_PROBE_MIN_SIZE;
 use base::types::*;
 
+// The steps of the ladder below full, 3/4 and 1/2: the numerator and the denominator of each.
+const LADDER: [u32; 4] = [3, 4, 1, 2];
+
 // Whether a size is below the last one and above the smallest.
 fn fits(len: u16, last: u16) -> bool
     ensures { λ r. ⌜ r ≡ fitsOf last len ⌝ }
@@ -22,11 +25,11 @@ pub fn rung(full: u16, last: u16) -> u16
     if fits(full, last) {
         return full;
     }
-    let most = ((full as u32) * 3 / 4) as u16;
+    let most = ((full as u32) * LADDER[0] / LADDER[1]) as u16;
     if fits(most, last) {
         return most;
     }
-    let half = full / 2;
+    let half = ((full as u32) * LADDER[2] / LADDER[3]) as u16;
     if fits(half, last) {
         return half;
     }

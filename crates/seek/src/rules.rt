@@ -1,6 +1,5 @@
 // The search's rules on sizes alone: no clock and no identifiers.
 ghost use mathlib.Core.Path.{_≡_};
-ghost use Prim.Native.Nat.{min};
 ghost use Rattle.base.specs.Limits.{minLen};
 ghost use Rattle.seek.specs.Rules.{proposalOf, lostWith, knownOf, risesOf, raisedOf, closeOf};
 use crate::types::*;
@@ -23,13 +22,6 @@ pub fn proposal(lost: u16, proven: u16, full: u16) -> MaybeLen
     MaybeLen::None
 }
 
-// The smaller of two sizes.
-pub fn smaller(a: u16, b: u16) -> u16
-    ensures { λ r. ⌜ r ≡ min a b ⌝ }
-{
-    if b < a { b } else { a }
-}
-
 // The lost size once `len` is lost too: the smaller.
 pub fn lose(lost: u16, len: u16) -> u16
     ensures { λ r. ⌜ r ≡ lostWith lost len ⌝ }
@@ -37,7 +29,7 @@ pub fn lose(lost: u16, len: u16) -> u16
     if lost == 0 {
         return len;
     }
-    smaller(lost, len)
+    base::num::min_u16(lost, len)
 }
 
 // What counts as proven: the smallest size where nothing is.

@@ -147,7 +147,7 @@ pub fn seek_proved(s: Sizes, sent: u16, acked: u16, now: u64) -> Proved
 {
     let seek = s.seek;
     let old = s.proven;
-    let size = smaller(sent, acked);
+    let size = base::num::min_u16(sent, acked);
     let raised = rises(old, size);
     let proven = raise(old, size);
     if acked < sent {

@@ -16,7 +16,7 @@ use Rattle.select.specs.declared.types.Rival.{Rival}
 use Rattle.select.specs.declared.types.Medium.{Medium}
 use Rattle.select.specs.declared.types.Test.the-variants as test
 use Rattle.select.specs.declared.types.Want.the-variants.{Scored, Preferred, Quicker, Timed}
-use Rattle.select.proofs.KeepLaws.{keep-same, keep-keep, none-keep, only-keep}
+use Rattle.base.proofs.KeepLaws.{keep-same, keep-keep, none-keep, only-keep}
 
 -- 6 over the held rivals
 pub long-is : (l : List Rival) → isLongHeld l ≡ not (every (lacksOf test.Long) l)

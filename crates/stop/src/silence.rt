@@ -184,7 +184,7 @@ fn rebased(x: Stop, at: u64, ok: bool) -> Stop
     }
     if ok {
         let least = base::time::deadline(at, x.used);
-        let free = base::time::larger(x.free, least);
+        let free = base::num::max_u64(x.free, least);
         return marked(x, free, false);
     }
     marked(x, x.free, false)

@@ -2,7 +2,7 @@
 -- Assumes nothing.
 use lib.Dec.{eqb}
 use Rattle.seek.specs.Search.{settledSearch}
-use Rattle.seek.proofs.TestLaws.{turned}
+use Rattle.base.proofs.Cases.{turned}
 use borrow.Author.Needs.{needs}
 use Rattle.seek.proofs.search.seek_answer.Statement.{statement}
 use Rattle.seek.proofs.search.seek_answer.Tie as tie
