@@ -65,7 +65,14 @@ impl Picked {
         let (number, place) = choose_of(&bytes, case.margin(), Nans::One);
         let best = best_of(&bytes, BEST, Nans::One);
         let [some, bits] = best.unwrap_or([0, 0]);
-        let words = [case.margin, number, place, best.err().unwrap_or(0), some, bits];
+        let words = [
+            case.margin,
+            number,
+            place,
+            best.err().unwrap_or(0),
+            some,
+            bits,
+        ];
         record(bytes, &words)
     }
 
@@ -109,31 +116,65 @@ fn field_traits(case: &Case) -> Vec<(&'static str, bool)> {
     let limit = (least * case.margin()).to_bits();
     let at = |bits: u64| scored.iter().any(|r| r[SCORE] == bits);
     let taken = (number == 0).then(|| &case.rivals[place as usize]);
-    let near = |m: u64| changed(case, |_, _| ()).margin != m && moved(&Case { margin: m, ..case.clone() });
+    let near = |m: u64| {
+        changed(case, |_, _| ()).margin != m
+            && moved(&Case {
+                margin: m,
+                ..case.clone()
+            })
+    };
     let medium = |r: &[u64; 12]| r[MARKS] >> 4 & 3;
     let quicker = taken.is_some_and(|t| scored.iter().any(|r| quicker_of(medium(r), medium(t))));
     let ranked = best.is_ok_and(|[some, _]| some == 1);
-    let ties = scored.iter().filter(|r| r[SCORE] == least.to_bits()).count() > 1;
+    let ties = scored
+        .iter()
+        .filter(|r| r[SCORE] == least.to_bits())
+        .count()
+        > 1;
     vec![
         ("pinned", moved(&case.marked(PINNED, 0))),
         ("tier", moved(&flat)),
-        ("tier 0 alone", number == 0 && held.iter().all(|r| r[TIER] % 256 == 0)),
+        (
+            "tier 0 alone",
+            number == 0 && held.iter().all(|r| r[TIER] % 256 == 0),
+        ),
         ("fitting", moved(&case.marked(FITS, 0))),
         ("preferred", moved(&case.marked(PREFERRED, 0))),
         ("quicker medium", moved(&case.marked(0, MEDIUM))),
         ("quicker one is not near", ranked && quicker),
-        ("unknown medium taken", taken.is_some_and(|t| medium(t) == 3) && scored.len() > 1),
+        (
+            "unknown medium taken",
+            taken.is_some_and(|t| medium(t) == 3) && scored.len() > 1,
+        ),
         ("margin", near(1.0_f64.to_bits())),
-        ("score at best × margin", ranked && at(limit) && limit != least.to_bits()),
-        ("score one step past it", ranked && at(limit.wrapping_add(1))),
-        ("score one step before it", ranked && at(limit.wrapping_sub(1))),
+        (
+            "score at best × margin",
+            ranked && at(limit) && limit != least.to_bits(),
+        ),
+        (
+            "score one step past it",
+            ranked && at(limit.wrapping_add(1)),
+        ),
+        (
+            "score one step before it",
+            ranked && at(limit.wrapping_sub(1)),
+        ),
         ("equal scores", ranked && ties),
         ("no score", number == 0 && best == Ok([0, 0])),
-        ("no score, RTTs", moved(&changed(case, |_, r| r[TIMED] = 0)) && best == Ok([0, 0])),
-        ("no score, equal RTTs", number == 0 && best == Ok([0, 0]) && equal_times(&held)),
+        (
+            "no score, RTTs",
+            moved(&changed(case, |_, r| r[TIMED] = 0)) && best == Ok([0, 0]),
+        ),
+        (
+            "no score, equal RTTs",
+            number == 0 && best == Ok([0, 0]) && equal_times(&held),
+        ),
         ("a NaN", case.has_nan(false) && number == 0),
         ("two zeros", at(0) && at(1 << 63)),
-        ("infinite margin or score", case.margin().is_infinite() || at(f64::INFINITY.to_bits())),
+        (
+            "infinite margin or score",
+            case.margin().is_infinite() || at(f64::INFINITY.to_bits()),
+        ),
         ("margin below 1", case.margin() < 1.0 && number == 0),
         ("one rival", held.len() == 1 && number == 0),
         ("eight rivals", held.len() == 8 && number == 0),
@@ -155,13 +196,20 @@ fn equal_times(held: &[&[u64; 12]]) -> bool {
 fn pair_traits(case: &Case) -> Vec<(&'static str, bool)> {
     let ask = |case: &Case| {
         let (bytes, margin) = (case.bytes(), case.margin());
-        (held_of(&bytes, margin, Nans::One), waits_of(&bytes, margin, Nans::One))
+        (
+            held_of(&bytes, margin, Nans::One),
+            waits_of(&bytes, margin, Nans::One),
+        )
     };
     let (held, waits) = ask(case);
     let other = |change: fn(&mut [u64; 12])| ask(&changed(case, |_, r| change(r)));
     let held_hangs = |change: fn(&mut [u64; 12])| held.0 == 0 && other(change).0 != held;
     let waits_hangs = |change: fn(&mut [u64; 12])| waits.0 == 0 && other(change).1 != waits;
-    let nan = |n: usize| case.rivals.iter().any(|r| r[n - 1] % 2 == 1 && one_nan(r[n]) != r[n]);
+    let nan = |n: usize| {
+        case.rivals
+            .iter()
+            .any(|r| r[n - 1] % 2 == 1 && one_nan(r[n]) != r[n])
+    };
     vec![
         ("held", held == (0, 1)),
         ("not held", held == (0, 0)),
