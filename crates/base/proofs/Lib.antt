@@ -1,7 +1,10 @@
+pub mod Cases
+pub mod KeepLaws
+pub mod FirstLaws
+pub mod LeastLaws
 pub mod SeqLaws
 pub mod ScanLaws
 pub mod MarkedLaws
-pub mod Cases
 pub mod BookLaws
 pub mod SerialLaws
-mod TimeLaws
+pub mod TimeLaws

@@ -1,5 +1,5 @@
--- What one pass over an array asks, at any element type and any length: a map, a fold over the elements that pass a test; and what
--- the functions of specs/Seq.antt say of each place by its index.
+-- What one pass over an array asks, at any element type and any length: a map, a fold over the elements that pass a
+-- test; and what the functions of specs/Seq.antt say of each place by its index.
 -- Assumes nothing.
 use Prim.Native.Nat.{ℕ, zero, suc, _+_, _<_, _≤_}
 use mathlib.Core.Path.{_≡_, refl, ap, sym, _∙_}
@@ -30,7 +30,8 @@ module _ {A : Type 0} {f : A → A} {l : List A} {n : ℕ} {out : List A} where
   pub mapping-start : length l ≡ n → out ≡ l → Mapping f l n out 0
   mapping-start h e = record { long = h; upto = omega arith; done = e }
 
-  pub mapping-next : {i : ℕ} {v : A} (d : A) → Mapping f l n out i → i < n → v ≡ f (getD l i d) → Mapping f l n (set out i v) (i + 1)
+  pub mapping-next : {i : ℕ} {v : A} (d : A) → Mapping f l n out i → i < n → v ≡ f (getD l i d)
+      → Mapping f l n (set out i v) (i + 1)
   mapping-next {i} {v} d s h e =
       let k : i < length l = omega arith in
       let m : length (map f (take i l)) ≡ i = rw (length-map, length-take-le i l (omega arith)) in
@@ -53,7 +54,8 @@ module _ {A : Type 0} {f : A → A} {l : List A} {n : ℕ} {out : List A} where
 -- ---- a fold over what g makes of the elements that pass
 
 -- b is the fold over the first i elements of l, a list of n
-pub record Folding {A B C : Type 0} (p : A → Bool) (g : A → C) (f : B → C → B) (z : B) (l : List A) (n : ℕ) (b : B) (i : ℕ) : Type 0 where
+pub record Folding {A B C : Type 0} (p : A → Bool) (g : A → C) (f : B → C → B) (z : B) (l : List A) (n : ℕ) (b : B)
+    (i : ℕ) : Type 0 where
   pub long : length l ≡ n
   pub upto : i ≤ n
   pub done : b ≡ foldl f z (map g (keep p (take i l)))
@@ -67,7 +69,8 @@ module _ {A B C : Type 0} {p : A → Bool} {g : A → C} {f : B → C → B} {z 
         → Folding p g f z l n v (i + 1)
     folding-take s h e m =
         let k : i < length l = omega arith in
-        let q : keep p (take (suc i) l) ≡ keep p (take i l) ++ (getD l i d ∷ []) = simp (take-suc l i d, keep-append, e) in
+        let q : keep p (take (suc i) l) ≡ keep p (take i l) ++ (getD l i d ∷ []) = simp (take-suc l i d, keep-append, e)
+        in
         rw add-one
         (record { long = s .long; upto = h; done = rw (q, map-append, foldl-append, sym (s .done)) m })
 
@@ -99,7 +102,8 @@ module _ {A : Type 0} {p : A → Bool} {l : List A} {n : ℕ} where
     pub counting-take : Counting p l n c i → i < n → p (getD l i d) ≡ true → Counting p l n (c + 1) (i + 1)
     counting-take s h e =
         let k : i < length l = omega arith in
-        let q : keep p (take (suc i) l) ≡ keep p (take i l) ++ (getD l i d ∷ []) = simp (take-suc l i d, keep-append, e) in
+        let q : keep p (take (suc i) l) ≡ keep p (take i l) ++ (getD l i d ∷ []) = simp (take-suc l i d, keep-append, e)
+        in
         rw (add-one i)
         (record { long = s .long; upto = h; some = omega arith; done = rw (q, length-append) (omega arith) })
 
@@ -130,7 +134,8 @@ module _ {A : Type 0} (d : A) where
       rw q (every-of p l (λ j h. f (suc j) (omega arith)))
 
   -- of the elements that are held
-  pub every-keep-at : (t p : A → Bool) (l : List A) (j : ℕ) → every p (keep t l) ≡ true → j < length l → t (getD l j d) ≡ true → p (getD l j d) ≡ true
+  pub every-keep-at : (t p : A → Bool) (l : List A) (j : ℕ) → every p (keep t l) ≡ true → j < length l
+      → t (getD l j d) ≡ true → p (getD l j d) ≡ true
   every-keep-at t p [] j e h k = absurd (omega arith)
   every-keep-at t p (x ∷ l) zero e h k =
       let m : every p (x ∷ keep t l) ≡ true = rw k at e in
@@ -144,7 +149,8 @@ module _ {A : Type 0} (d : A) where
       (λ r. let y : true ≡ false = sym (rw r at m) in cc))
       (λ q. every-keep-at t p l j (rw q at e) (omega arith) k)
 
-  pub every-keep-of : (t p : A → Bool) (l : List A) → ((j : ℕ) → j < length l → t (getD l j d) ≡ true → p (getD l j d) ≡ true) → every p (keep t l) ≡ true
+  pub every-keep-of : (t p : A → Bool) (l : List A)
+      → ((j : ℕ) → j < length l → t (getD l j d) ≡ true → p (getD l j d) ≡ true) → every p (keep t l) ≡ true
   every-keep-of t p [] f = refl
   every-keep-of t p (x ∷ l) f =
       on-flag (t x)
@@ -162,7 +168,8 @@ module _ {A : Type 0} (d : A) where
       let q : p x ≡ false = f 0 (omega arith) in
       rw q (ap suc (position-is p l k (omega arith) e (λ j m. f (suc j) (omega arith))))
 
-  pub position-none : (p : A → Bool) (l : List A) → ((j : ℕ) → j < length l → p (getD l j d) ≡ false) → length l ≡ position p l
+  pub position-none : (p : A → Bool) (l : List A) → ((j : ℕ) → j < length l → p (getD l j d) ≡ false)
+      → length l ≡ position p l
   position-none p [] f = refl
   position-none p (x ∷ l) f =
       let q : p x ≡ false = f 0 (omega arith) in
@@ -173,7 +180,8 @@ module _ {A : Type 0} (d : A) where
       → ((j : ℕ) → k < j → j < length l → p (getD l j d) ≡ false) → k ≡ lastPosition p l
   last-is p [] k h e f = absurd (omega arith)
   last-is p (x ∷ l) zero h e f =
-      let q : every (λ (y : A). not (p y)) l ≡ true = every-of (λ (y : A). not (p y)) l (λ j m. rw (f (suc j) (omega arith) (omega arith))) in
+      let q : every (λ (y : A). not (p y)) l ≡ true = every-of (λ (y : A). not (p y)) l
+      (λ j m. rw (f (suc j) (omega arith) (omega arith))) in
       rw (e, q)
   last-is p (x ∷ l) (suc k) h e f =
       let q : every (λ (y : A). not (p y)) l ≡ false =
@@ -181,10 +189,12 @@ module _ {A : Type 0} (d : A) where
       (λ m. let y : false ≡ true = rw e at (every-at (λ (y : A). not (p y)) l k m (omega arith)) in cc)
       (λ m. m)
       in
-      let r : suc k ≡ suc (lastPosition p l) = ap suc (last-is p l k (omega arith) e (λ j m n. f (suc j) (omega arith) (omega arith))) in
+      let r : suc k ≡ suc (lastPosition p l) = ap suc (last-is p l k (omega arith) e
+      (λ j m n. f (suc j) (omega arith) (omega arith))) in
       on-flag (p x) (λ t. rw (t, q) r) (λ t. rw t r)
 
-  pub last-none : (p : A → Bool) (l : List A) → ((j : ℕ) → j < length l → p (getD l j d) ≡ false) → length l ≡ lastPosition p l
+  pub last-none : (p : A → Bool) (l : List A) → ((j : ℕ) → j < length l → p (getD l j d) ≡ false)
+      → length l ≡ lastPosition p l
   last-none p [] f = refl
   last-none p (x ∷ l) f =
       let q : p x ≡ false = f 0 (omega arith) in
@@ -193,5 +203,6 @@ module _ {A : Type 0} (d : A) where
 -- ---- what is held after a store
 
 module _ {A : Type 0} (p : A → Bool) where
-  pub keep-set : (l : List A) (i : ℕ) (x : A) → i < length l → p x ≡ true → keep p (set l i x) ≡ keep p (take i l) ++ (x ∷ keep p (drop (suc i) l))
+  pub keep-set : (l : List A) (i : ℕ) (x : A) → i < length l → p x ≡ true
+      → keep p (set l i x) ≡ keep p (take i l) ++ (x ∷ keep p (drop (suc i) l))
   keep-set l i x h e = rw (set-split l i x h, keep-append, e)

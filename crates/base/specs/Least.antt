@@ -1,14 +1,24 @@
--- The least of some instants or durations.
-use Prim.Native.Nat.{ℕ, min}
-use mathlib.Core.List.{List, foldl}
+-- The least and the largest of some instants or durations.
+use Prim.Native.Nat.{ℕ}
+use mathlib.Core.List.{List}
+use mathlib.Core.Bool.{Bool}
+use lib.Dec.{ltb}
+use Rattle.base.specs.First.{firstOf}
 use Rattle.base.specs.declared.types.MaybeTime.{MaybeTime}
 use Rattle.base.specs.declared.types.MaybeTime.the-variants.{None, Some}
 
--- the smaller of what there is and one more
-abbrev pub lowerOf : MaybeTime → ℕ → MaybeTime
-lowerOf None x = Some x
-lowerOf (Some a) x = Some (min a x)
+-- the order of numbers, the least first
+abbrev pub below : ℕ → ℕ → Bool
+below x y = ltb x y
+
+-- and the largest first
+abbrev pub above : ℕ → ℕ → Bool
+above x y = ltb y x
 
 -- the least of a list, or none
 abbrev pub leastOf : List ℕ → MaybeTime
-leastOf l = foldl lowerOf None l
+leastOf l = firstOf below None Some l
+
+-- the largest of a list, or none
+abbrev pub largestOf : List ℕ → MaybeTime
+largestOf l = firstOf above None Some l

@@ -1,7 +1,24 @@
 -- The refusal numbers (document 01, "Peer record", the table): the first that applies is given.
 use Prim.Native.Nat.{ℕ}
 use Rattle.base.specs.declared.types.Refusal.{Refusal}
-use Rattle.base.specs.declared.types.Refusal.the-variants.{Slot, Empty, Held, Flag, Length, Duration, Margin, Full, Unknown, NoSize, NoPath, Index, Cut, Map, Kind, Lent}
+use Rattle.base.specs.declared.types.Refusal.the-variants.{
+  Slot,
+  Empty,
+  Held,
+  Flag,
+  Length,
+  Duration,
+  Margin,
+  Full,
+  Unknown,
+  NoSize,
+  NoPath,
+  Index,
+  Cut,
+  Map,
+  Kind,
+  Lent,
+}
 
 abbrev pub refusalNumber : Refusal → ℕ
 refusalNumber Slot = 1

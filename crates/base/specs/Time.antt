@@ -1,12 +1,12 @@
 -- Instants and durations (document 01, "Kept and written anew": the stand-ins).
+use mathlib.Core.Bool.{cond}
 use Prim.Native.Nat.{ℕ, zero, suc, _+_, _-_, _/_, _^_}
 use lib.Dec.{ltb}
-use Rattle.base.specs.Seq.{pick}
 
 -- at most n halvings of d, rounding down, while t + d passes 2 ^ bits - 1
 abbrev pub halved : ℕ → ℕ → ℕ → ℕ → ℕ
 halved bits t zero d = d
-halved bits t (suc n) d = pick (ltb (t + d) (2 ^ bits)) d (halved bits t n (d / 2))
+halved bits t (suc n) d = cond (ltb (t + d) (2 ^ bits)) d (halved bits t n (d / 2))
 
 -- t + d; while that passes 2 ^ bits - 1, d is halved (a number of so many bits is 0 after as many halvings)
 abbrev pub deadlineOf : ℕ → ℕ → ℕ → ℕ

@@ -1,7 +1,6 @@
 // Instants and durations are counts of nanoseconds.
 ghost use mathlib.Core.Path.{_≡_};
-ghost use Prim.Native.Nat.{min, max};
-ghost use Rattle.base.specs.Least.{lowerOf};
+ghost use Rattle.base.specs.Passes.{lowerOf, higherOf};
 ghost use Rattle.base.specs.Time.{deadlineOf, elapsedOf};
 use crate::types::MaybeTime;
 
@@ -24,26 +23,22 @@ pub fn elapsed(now: u64, from: u64) -> u64
     if now < from { 0 } else { now - from }
 }
 
-// The smaller of two instants or durations.
-pub fn smaller(a: u64, b: u64) -> u64
-    ensures { λ r. ⌜ r ≡ min a b ⌝ }
-{
-    if a < b { a } else { b }
-}
-
-// The larger of two instants or durations.
-pub fn larger(a: u64, b: u64) -> u64
-    ensures { λ r. ⌜ r ≡ max a b ⌝ }
-{
-    if a < b { b } else { a }
-}
-
 // The least so far, with one more.
 pub fn lower(least: MaybeTime, x: u64) -> MaybeTime
     ensures { λ r. ⌜ r ≡ lowerOf least x ⌝ }
 {
     match least {
         MaybeTime::None => MaybeTime::Some(x),
-        MaybeTime::Some(t) => MaybeTime::Some(smaller(t, x)),
+        MaybeTime::Some(t) => MaybeTime::Some(crate::num::min_u64(t, x)),
+    }
+}
+
+// The largest so far, with one more.
+pub fn higher(largest: MaybeTime, x: u64) -> MaybeTime
+    ensures { λ r. ⌜ r ≡ higherOf largest x ⌝ }
+{
+    match largest {
+        MaybeTime::None => MaybeTime::Some(x),
+        MaybeTime::Some(t) => MaybeTime::Some(crate::num::max_u64(t, x)),
     }
 }

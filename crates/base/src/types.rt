@@ -1,4 +1,6 @@
 // What may be missing, an enum for each type, and the refusals.
+ghost use mathlib.Core.Path.{_≡_};
+ghost use Rattle.base.specs.Refusals.{refusalNumber};
 
 // An identifier, or none.
 pub enum MaybeId {
@@ -36,4 +38,30 @@ pub enum Refusal {
     Map,
     Kind,
     Lent,
+}
+
+impl Refusal {
+    // The number of a refusal in document 01's table.
+    pub fn number(self) -> u64
+        ensures { λ r. ⌜ r ≡ refusalNumber self ⌝ }
+    {
+        match self {
+            Refusal::Slot => 1,
+            Refusal::Empty => 2,
+            Refusal::Held => 3,
+            Refusal::Flag => 4,
+            Refusal::Length => 5,
+            Refusal::Duration => 6,
+            Refusal::Margin => 7,
+            Refusal::Full => 8,
+            Refusal::Unknown => 9,
+            Refusal::NoSize => 10,
+            Refusal::NoPath => 11,
+            Refusal::Index => 12,
+            Refusal::Cut => 13,
+            Refusal::Map => 14,
+            Refusal::Kind => 15,
+            Refusal::Lent => 16,
+        }
+    }
 }

@@ -9,7 +9,6 @@ ghost use Rattle.fields.specs.Fields.{mediumOf, roleOf};
 ghost use Rattle.entries.specs.Choice.{chosenReply, chooseReply, lentNumber, bestNumberOf, bestOut, heldReply, heldFrom, waitsFrom, reportsOf, holdReply, costReply, sizedReply, maybeSize, carriedReply};
 use crate::Reply;
 use base::types::*;
-use script::answers::number;
 use select::types::*;
 
 // The place chosen, or the refusal.
@@ -22,7 +21,7 @@ fn of_chosen(answer: Chosen) -> Reply
             value: n as u64,
         },
         Chosen::Refused(why) => Reply {
-            number: number(why),
+            number: why.number(),
             value: 0,
         },
     }
@@ -66,7 +65,7 @@ pub extern "C" fn hess_best(field: &[u8], out: &mut [u8]) -> u64
     match select::choice::best(rivals) {
         BestAnswer::Score(x) => put_best(out, 1, image::words::etx_bits(x)),
         BestAnswer::Unscored => put_best(out, 0, 0),
-        BestAnswer::Refused(why) => number(why),
+        BestAnswer::Refused(why) => why.number(),
     }
 }
 
@@ -92,7 +91,7 @@ fn of_held(answer: HeldAnswer) -> Reply
             value: 0,
         },
         HeldAnswer::Refused(why) => Reply {
-            number: number(why),
+            number: why.number(),
             value: 0,
         },
     }
@@ -158,7 +157,7 @@ fn of_cost(answer: CostAnswer) -> Reply
             value: 0,
         },
         CostAnswer::Refused(why) => Reply {
-            number: number(why),
+            number: why.number(),
             value: 0,
         },
     }
@@ -202,7 +201,7 @@ fn of_size(answer: SizeAnswer) -> Reply
             value: n as u64,
         },
         SizeAnswer::Refused(why) => Reply {
-            number: number(why),
+            number: why.number(),
             value: 0,
         },
     }

@@ -9,6 +9,9 @@ ghost use Rattle.total.specs.Values.{totalOf, clampOf, maxOf};
 ghost use Rattle.etx.specs.Etx.{foldOf, qualityOf, secondsOf};
 ghost use Rattle.script.specs.Run.{scriptNumber, scriptOut};
 ghost use Rattle.entries.specs.Entries.{refused, given, deadlineReply, sizeReply, timeoutReply, ladderOf, maybeOf};
+use base::limits::DURATION_END;
+use base::limits::MAX_LEN;
+use base::limits::MIN_LEN;
 use base::types::*;
 use seek::types::Ladder;
 
@@ -34,7 +37,7 @@ pub extern "C" fn hess_after(a: u32, b: u32) -> bool
 pub extern "C" fn hess_deadline(t: u64, d: u64) -> Reply
     ensures { λ r. ⌜ r ≡ deadlineReply t d ⌝ }
 {
-    if 0x4000_0000_0000_0000 <= d {
+    if DURATION_END <= d {
         return Reply {
             number: 6,
             value: 0,
@@ -133,19 +136,19 @@ fn ladder(fallen: bool, held: bool, last: u16) -> Ladder
 pub extern "C" fn hess_size(full: u32, fallen: bool, held: bool, last: u32) -> Reply
     ensures { λ r. ⌜ r ≡ sizeReply full fallen held last ⌝ }
 {
-    if 65535 < full {
+    if MAX_LEN < full {
         return Reply {
             number: 5,
             value: 0,
         };
     }
-    if full < 27 {
+    if full < MIN_LEN {
         return Reply {
             number: 5,
             value: 0,
         };
     }
-    if 65535 < last {
+    if MAX_LEN < last {
         return Reply {
             number: 5,
             value: 0,
@@ -181,13 +184,13 @@ pub extern "C" fn hess_timeout(
 ) -> Reply
     ensures { λ r. ⌜ r ≡ timeoutReply floor cap (maybeOf timed last) (maybeOf sampled largest) ⌝ }
 {
-    if 0x4000_0000_0000_0000 <= floor {
+    if DURATION_END <= floor {
         return Reply {
             number: 6,
             value: 0,
         };
     }
-    if 0x4000_0000_0000_0000 <= cap {
+    if DURATION_END <= cap {
         return Reply {
             number: 6,
             value: 0,

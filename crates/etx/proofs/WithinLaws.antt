@@ -13,7 +13,7 @@ use lib.Ieee.Positive.{above, positive, above-of-le}
 use Rattle.base.proofs.Cases.{on-flag}
 use Rattle.total.specs.Values.{clampOf, maxOf}
 use Rattle.total.proofs.ValueLaws.{le-of-not-lt}
-use Rattle.etx.specs.Etx.{one, hundred, hundredth, ratioOf, sampleOf, nextOf, foldOf, Within}
+use Rattle.etx.specs.Etx.{one, hundred, hundredth, ratioOf, outcomeOf, nextRatio, foldOf, Within}
 
 -- ---- a clamped value that is no NaN
 
@@ -107,5 +107,5 @@ max-above x =
 pub fold-within : (etx : Float) (delivered : Bool) → Within (foldOf etx delivered)
 unfolding foldOf
 fold-within etx delivered =
-    let next = nextOf (ratioOf etx) (sampleOf delivered) in
+    let next = nextRatio (ratioOf etx) (outcomeOf delivered) in
     clamp-within (div binary64 one (maxOf next hundredth)) (one-by (maxOf next hundredth) (max-above next))

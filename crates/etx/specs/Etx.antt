@@ -44,17 +44,17 @@ abbrev pub ratioOf : Float → Float
 ratioOf etx = clampOf (div binary64 one etx) hundredth one
 
 -- if delivered { 1.0 } else { 0.0 }
-abbrev pub sampleOf : Bool → Float
-sampleOf delivered = cond delivered one nought
+abbrev pub outcomeOf : Bool → Float
+outcomeOf delivered = cond delivered one nought
 
 -- ratio + EWMA_LONG_ALPHA * (sample - ratio)
-abbrev pub nextOf : Float → Float → Float
-nextOf ratio sample = add binary64 ratio (mul binary64 alpha (sub binary64 sample ratio))
+abbrev pub nextRatio : Float → Float → Float
+nextRatio ratio sample = add binary64 ratio (mul binary64 alpha (sub binary64 sample ratio))
 
 -- (1.0 / next.max(0.01)).clamp(1.0, 100.0)
 unfoldable pub foldOf : Float → Bool → Float
 foldOf etx delivered =
-    clampOf (div binary64 one (maxOf (nextOf (ratioOf etx) (sampleOf delivered)) hundredth)) one hundred
+    clampOf (div binary64 one (maxOf (nextRatio (ratioOf etx) (outcomeOf delivered)) hundredth)) one hundred
 
 -- "ETX stays within 1 and 100": so it is finite and no NaN. `fold-within` of proofs/WithinLaws.antt shows it of every fold.
 pub record Within (x : Float) : Type 0 where

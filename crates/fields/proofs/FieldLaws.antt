@@ -16,14 +16,14 @@ use lib.ListN.{length, take, drop, set, replicate, length-set, length-drop}
 use lib.Seq.{take-all, take-suc-set, drop-drop}
 use Rattle.select.specs.Rivals.{noRival}
 use Rattle.select.specs.declared.types.Rival.{Rival}
-use Rattle.fields.specs.Fields.{floatOf, bitOf, mediumOf, rivalFrom, rivalsOf, fieldOf}
+use Rattle.fields.specs.Fields.{floatOf, bitOf, mediumOf, rivalFrom, rivalsFrom, fieldOf}
 
 -- of n rivals of s those before i stand at the front of out, and the rest begins at `at`
 pub record Taking (s : List ℕ) (n : ℕ) (out : List Rival) (i at : ℕ) : Type 0 where
   pub upto : i ≤ n
   pub place : at ≡ 96 * i
   pub long : length out ≡ n
-  pub done : rivalsOf n s ≡ take i out ++ rivalsOf (n - i) (drop at s)
+  pub done : rivalsFrom n s ≡ take i out ++ rivalsFrom (n - i) (drop at s)
 
 pub taking-start : {s : List ℕ} {n : ℕ} {out : List Rival} → length out ≡ n → Taking s n out 0 0
 taking-start {s} {n} {out} h =
@@ -41,16 +41,16 @@ taking-next {s} {n} {out} {i} {at} {r} t h e =
     let l : i < length out = omega (arith, t .long) in
     let q : take (i + 1) (set out i r) ≡ take i out ++ (r ∷ []) = rw add-one (take-suc-set out i r l) in
     let d : drop 96 (drop at s) ≡ drop (at + 96) s = drop-drop 96 at s in
-    let x : rivalsOf n s ≡ take i out ++ rivalsOf (suc (n - (i + 1))) (drop at s) = rw k at (t .done) in
-    let y : rivalsOf (suc (n - (i + 1))) (drop at s) ≡ r ∷ rivalsOf (n - (i + 1)) (drop (at + 96) s) = rw (d, sym e) in
+    let x : rivalsFrom n s ≡ take i out ++ rivalsFrom (suc (n - (i + 1))) (drop at s) = rw k at (t .done) in
+    let y : rivalsFrom (suc (n - (i + 1))) (drop at s) ≡ r ∷ rivalsFrom (n - (i + 1)) (drop (at + 96) s) = rw (d, sym e) in
     record {
       upto = omega arith;
       place = omega (arith, t .place);
       long = length-set out i r ∙ t .long;
       done =
           x ∙ ap (λ (z : List Rival). take i out ++ z) y
-          ∙ sym (append-assoc (take i out) (r ∷ []) (rivalsOf (n - (i + 1)) (drop (at + 96) s)))
-          ∙ ap (λ (z : List Rival). z ++ rivalsOf (n - (i + 1)) (drop (at + 96) s)) (sym q);
+          ∙ sym (append-assoc (take i out) (r ∷ []) (rivalsFrom (n - (i + 1)) (drop (at + 96) s)))
+          ∙ ap (λ (z : List Rival). z ++ rivalsFrom (n - (i + 1)) (drop (at + 96) s)) (sym q);
     }
 
 pub taking-end : {s : List ℕ} {out : List Rival} {i at : ℕ} → Taking s 8 out i at → 8 ≤ i → 768 ≤ length s → out ≡ fieldOf s
@@ -58,9 +58,9 @@ unfolding fieldOf
 taking-end {s} {out} {i} {at} t h k =
     let z : 8 - i ≡ 0 = omega arith in
     let a : take i out ≡ out = take-all i out (omega (arith, t .long)) in
-    let d : rivalsOf 8 s ≡ take i out ++ rivalsOf (8 - i) (drop at s) = t .done in
+    let d : rivalsFrom 8 s ≡ take i out ++ rivalsFrom (8 - i) (drop at s) = t .done in
     rw (le-ltb (length s) 768 k)
-    (sym (d ∙ ap (λ (m : ℕ). take i out ++ rivalsOf m (drop at s)) z ∙ append-nil (take i out) ∙ a))
+    (sym (d ∙ ap (λ (m : ℕ). take i out ++ rivalsFrom m (drop at s)) z ∙ append-nil (take i out) ∙ a))
 
 pub field-short : (s : List ℕ) → length s < 768 → replicate 8 noRival ≡ fieldOf s
 unfolding fieldOf

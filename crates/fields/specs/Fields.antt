@@ -2,11 +2,10 @@
 -- score, timed, RTT, steadied, steady, based, base RTT, tier, marks (bit 0 preferred, 1 pinned, 2 fits, 4 and 5 the medium).
 use Prim.Native.Nat.{ℕ, zero, suc, _/_, _%_}
 use mathlib.Core.List.{List, [], _∷_}
-use mathlib.Core.Bool.{Bool}
+use mathlib.Core.Bool.{Bool, cond}
 use lib.Dec.{eqb, ltb}
 use lib.Ieee.{Float, binary64, ofBits}
 use lib.ListN.{length, drop, replicate}
-use Rattle.base.specs.Seq.{pick}
 use Rattle.octets.specs.Octets.{readAt}
 use Rattle.select.specs.Rivals.{noRival}
 use Rattle.select.specs.declared.types.Medium.{Medium}
@@ -26,10 +25,10 @@ bitOf x = eqb (x % 2) 1
 -- a medium and a role by their numbers in the Rust's order, modulo 4
 abbrev pub mediumOf : ℕ → Medium
 mediumOf x =
-    pick (eqb (x % 4) 0) medium.Ble (pick (eqb (x % 4) 1) medium.Wired (pick (eqb (x % 4) 2) medium.Wireless medium.Unknown))
+    cond (eqb (x % 4) 0) medium.Ble (cond (eqb (x % 4) 1) medium.Wired (cond (eqb (x % 4) 2) medium.Wireless medium.Unknown))
 
 abbrev pub roleOf : ℕ → Role
-roleOf x = pick (eqb (x % 4) 0) role.Never (pick (eqb (x % 4) 1) role.Backup (pick (eqb (x % 4) 2) role.Normal role.Preferred))
+roleOf x = cond (eqb (x % 4) 0) role.Never (cond (eqb (x % 4) 1) role.Backup (cond (eqb (x % 4) 2) role.Normal role.Preferred))
 
 -- the rival at the front of the bytes
 unfoldable pub rivalFrom : List ℕ → Rival
@@ -53,10 +52,10 @@ rivalFrom s =
     }
 
 -- the first n rivals
-abbrev pub rivalsOf : ℕ → List ℕ → List Rival
-rivalsOf zero s = []
-rivalsOf (suc n) s = rivalFrom s ∷ rivalsOf n (drop 96 s)
+abbrev pub rivalsFrom : ℕ → List ℕ → List Rival
+rivalsFrom zero s = []
+rivalsFrom (suc n) s = rivalFrom s ∷ rivalsFrom n (drop 96 s)
 
 -- a field of eight rivals, empty where there are fewer bytes
 unfoldable pub fieldOf : List ℕ → List Rival
-fieldOf s = pick (ltb (length s) 768) (replicate 8 noRival) (rivalsOf 8 s)
+fieldOf s = cond (ltb (length s) 768) (replicate 8 noRival) (rivalsFrom 8 s)

@@ -74,17 +74,17 @@ pub fn rival_from(part: &[u8]) -> Rival
 }
 
 // A field of eight rivals from 768 bytes; an empty one where there are fewer.
-pub fn field_from(bytes: &[u8]) -> [Rival; 8]
+pub fn field_from(bytes: &[u8]) -> [Rival; PATH_MAX_PER_PEER]
     ensures { λ r. ⌜ r ≡ fieldOf (now (bytes .entry)) ⌝ }
 {
     let none = Rival::none();
-    let mut field = [none; 8];
+    let mut field = [none; PATH_MAX_PER_PEER];
     if bytes.len() < 768 {
         return field;
     }
     let mut i: usize = 0;
     let mut at: usize = 0;
-    while i < 8 {
+    while i < PATH_MAX_PER_PEER {
         let r = rival_from(&bytes[at..]);
         field[i] = r;
         at += 96;

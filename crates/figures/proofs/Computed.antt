@@ -31,5 +31,5 @@ agreed (x ∷ xs) (y ∷ ys) a = λ i. a .0 i ∷ agreed xs ys (a .1) i
 
 -- each of the twelve entries computes to the expected one
 pub computed : figures ≡ expected
-unfolding figures expected withSample maxRtt spanOf rungOf ladder.sizeOf proposalOf search.seekSizeOf search.seekSendOf search.seekAnswerOf search.seekProvedOf search.seekJudgeOf sendOf answerOf expireOf sizeOf proveOf seekSizeOf seekSendOf seekAnswerOf seekProvedOf seekJudgeOf sampleOf timeoutOf
+unfolding figures expected withSample maxRtt spanOf rungOf ladder.ladderSize proposalOf search.searchSize search.sentSearch search.settledSearch search.ackedSearch search.judgedSearch sendOf answerOf expireOf sizeOf proveOf seekSizeOf seekSendOf seekAnswerOf seekProvedOf seekJudgeOf sampleOf timeoutOf
 computed = agreed figures expected (refl, (refl, (refl, (refl, (refl, (refl, (refl, (refl, (refl, (refl, (refl, (refl, tt))))))))))))

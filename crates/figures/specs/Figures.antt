@@ -7,7 +7,7 @@ use Rattle.base.specs.Serial.{afterOf}
 use Rattle.base.specs.Time.{deadlineOf}
 use Rattle.stop.specs.Silence.{seconds}
 use Rattle.live.specs.New.{newLiveness}
-use Rattle.live.specs.Answers.{lenValue, timeValue}
+use Rattle.live.specs.Answers.{answerValue}
 use Rattle.live.specs.Search.{seekSizeOf}
 use Rattle.live.specs.Times.{timeoutOf, spentOf}
 use Rattle.figures.specs.Paths.{millis, lapsed, nextSize, nextSizes, proven, fullLost, restOf, probes, sampled, spanCount, halted, gapOf}
@@ -30,11 +30,11 @@ figures =
     -- (7) proven 100, full 132 lost: rest
     restOf (fullLost 100 132) 132 ∷
     -- (8) full 133 lost: 116 next
-    (lenValue (seekSizeOf (fullLost 100 133) 133 0) ∷ []) ∷
+    (answerValue (seekSizeOf (fullLost 100 133) 133 0) ∷ []) ∷
     -- (9) proven 27, full 65,535 lost, the rest acknowledged: 12 probes
     (probes 20 (proven 27) 65535 ∷ []) ∷
     -- (10) floor 400, last 100, largest 300, cap 600 ms: 600
-    (timeValue (timeoutOf (sampled 0) (millis 400) (millis 600)) ∷ []) ∷
+    (answerValue (timeoutOf (sampled 0) (millis 400) (millis 600)) ∷ []) ∷
     -- (11) horizon 60 s: a sample 10 s on opens a span (1 ns earlier it joins the first)
     (spanCount (sampled (seconds 10 - 1)) ∷ spanCount (sampled (seconds 10)) ∷ []) ∷
     -- (12) quiet 90, `halt` at 100 active, `spend` at 119, gap 1; at 120, gap 2 s (after the one at 119, or instead of it)

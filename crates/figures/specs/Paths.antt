@@ -1,23 +1,21 @@
 -- The paths that the marked figures speak of, each made from a new one by the rules of the methods alone (document 01, "Twelve marked
 -- figures"). Where a figure names no instant, everything happens at instant 0, with gap, timeout and cap 0 and the draw 0.
 use Prim.Native.Nat.{ℕ, zero, suc, _-_, _*_, _^_}
-use mathlib.Core.Bool.{Bool, true, false}
+use mathlib.Core.Bool.{Bool, true, false, cond}
 use mathlib.Core.List.{List, [], _∷_}
 use lib.Dec.{eqb}
 use lib.ListN.{length}
-use Rattle.base.specs.Seq.{pick, keep}
+use Rattle.base.specs.Seq.{keep}
 use Rattle.rtt.specs.Spans.{isSpan}
 use Rattle.stop.specs.Silence.{seconds}
 use Rattle.stop.specs.declared.types.MaybeStop.{MaybeStop}
 use Rattle.stop.specs.declared.types.MaybeStop.the-variants as stop
 use Rattle.live.specs.New.{newLiveness}
-use Rattle.live.specs.Answers.{idValue, lenNumber, lenValue}
+use Rattle.live.specs.Answers.{answerNumber, answerValue, isAccepted}
 use Rattle.live.specs.Probe.{sendOf, answerOf, expireOf}
 use Rattle.live.specs.Search.{sizeOf, proveOf, seekSizeOf, seekSendOf, seekAnswerOf, seekProvedOf, seekJudgeOf}
 use Rattle.live.specs.Times.{sampleOf, haltedOf}
 use Rattle.live.specs.declared.types.Liveness.{Liveness}
-use Rattle.live.specs.declared.types.LenAnswer.{LenAnswer}
-use Rattle.live.specs.declared.types.LenAnswer.the-variants as lens
 
 -- so many milliseconds, in nanoseconds
 abbrev pub millis : ℕ → ℕ
@@ -31,7 +29,7 @@ lapsed p n = expireOf (sendOf p 0 0 n 0 .path) 0 false 0 .path
 
 -- what `size` gives
 abbrev pub nextSize : Liveness → ℕ → ℕ
-nextSize p full = lenValue (sizeOf p full)
+nextSize p full = answerValue (sizeOf p full)
 
 -- the sizes of the next n probes, where each has the size that `size` gives and lapses
 abbrev pub nextSizes : ℕ → Liveness → ℕ → List ℕ
@@ -46,11 +44,11 @@ proven n = proveOf newLiveness n .path
 
 -- a search probe of the size proposed is out
 abbrev pub searched : Liveness → ℕ → Liveness
-searched p full = seekSendOf p 0 (lenValue (seekSizeOf p full 0)) 0 .path
+searched p full = seekSendOf p 0 (answerValue (seekSizeOf p full 0)) 0 .path
 
 -- the search probe that is out is judged lost, once a probe sent after it is answered
 abbrev pub lost : Liveness → Liveness
-lost p = seekJudgeOf (answerOf (sendOf p 0 0 27 0 .path) (idValue (sendOf p 0 0 27 0 .answer)) .path) 0 0 0 .path
+lost p = seekJudgeOf (answerOf (sendOf p 0 0 27 0 .path) (answerValue (sendOf p 0 0 27 0 .answer)) .path) 0 0 0 .path
 
 -- "proven .., full .. lost"
 abbrev pub fullLost : ℕ → ℕ → Liveness
@@ -61,8 +59,8 @@ abbrev pub restOf : Liveness → ℕ → List ℕ
 restOf p full =
     p .sizes .seek .len ∷
     p .sizes .seek .lost ∷
-    lenNumber (seekSizeOf p full (seconds 600 - 1)) ∷
-    lenValue (seekSizeOf p full (seconds 600)) ∷
+    answerNumber (seekSizeOf p full (seconds 600 - 1)) ∷
+    answerValue (seekSizeOf p full (seconds 600)) ∷
     []
 
 -- the search probe that is out is acknowledged at its size
@@ -71,17 +69,12 @@ acked p = seekProvedOf (seekAnswerOf p (p .sizes .seek .«probe_id») 0 .path) (
 
 -- "full .. lost, the rest acknowledged"
 abbrev pub settled : Liveness → ℕ → Liveness
-settled p full = pick (eqb (p .sizes .seek .len) full) (lost p) (acked p)
-
--- where a size is proposed one probe more than n, else none
-abbrev pub andThen : LenAnswer → ℕ → ℕ
-andThen (lens.Len m) n = suc n
-andThen (lens.Refused why) n = 0
+settled p full = cond (eqb (p .sizes .seek .len) full) (lost p) (acked p)
 
 -- how many search probes are sent, at most n, until no size is proposed
 abbrev pub probes : ℕ → Liveness → ℕ → ℕ
 probes zero p full = 0
-probes (suc n) p full = andThen (seekSizeOf p full 0) (probes n (settled (searched p full) full) full)
+probes (suc n) p full = cond (isAccepted (seekSizeOf p full 0)) (suc (probes n (settled (searched p full) full) full)) 0
 
 -- ---- RTT and stop
 

@@ -51,10 +51,10 @@ pub counts-length : (misses : ℕ) (ladder : Ladder) (sizes : Sizes) (traffic : 
 unfolding countsWords
 counts-length misses ladder sizes traffic = refl
 
-pub rtts-length : (r : Rtts) → length (r .rtts) ≡ 32 → length (r .spans) ≡ 8 → length (rttsWords r) ≡ 130
+pub rtts-length : (r : Rtts) → length (r .samples) ≡ 32 → length (r .spans) ≡ 8 → length (rttsWords r) ≡ 130
 unfolding rttsWords
 rtts-length r m n =
-    omega (arith, length-append (flat sampleWords (r .rtts)) (flat spanWords (r .spans)), samples-length (r .rtts) m, spans-length (r .spans) n)
+    omega (arith, length-append (flat sampleWords (r .samples)) (flat spanWords (r .spans)), samples-length (r .samples) m, spans-length (r .spans) n)
 
 pub front-length : (p : Liveness) → length (p .ring) ≡ 8 → length (p .late) ≡ 4 → length (frontWords p) ≡ 94
 unfolding frontWords
@@ -74,7 +74,7 @@ front-length p m n =
       counts-length (p .misses) (p .ladder) (p .sizes) (p .traffic),
     )
 
-pub image-length : (p : Liveness) → length (p .ring) ≡ 8 → length (p .late) ≡ 4 → length (p .rtts .rtts) ≡ 32 → length (p .rtts .spans) ≡ 8 → length (imageWords p) ≡ 225
+pub image-length : (p : Liveness) → length (p .ring) ≡ 8 → length (p .late) ≡ 4 → length (p .rtts .samples) ≡ 32 → length (p .rtts .spans) ≡ 8 → length (imageWords p) ≡ 225
 unfolding imageWords
 image-length p a b m n =
     omega (
@@ -86,6 +86,6 @@ image-length p a b m n =
     )
 
 -- the image has 1,800 bytes
-pub image-bytes : (p : Liveness) → length (p .ring) ≡ 8 → length (p .late) ≡ 4 → length (p .rtts .rtts) ≡ 32 → length (p .rtts .spans) ≡ 8 → length (imageOf p) ≡ 1800
+pub image-bytes : (p : Liveness) → length (p .ring) ≡ 8 → length (p .late) ≡ 4 → length (p .rtts .samples) ≡ 32 → length (p .rtts .spans) ≡ 8 → length (imageOf p) ≡ 1800
 unfolding imageOf
 image-bytes p a b m n = words-length (imageWords p) ∙ ap (λ (z : ℕ). 8 * z) (image-length p a b m n)

@@ -10,8 +10,8 @@ use Rattle.stop.specs.declared.types.Silence.{Silence}
 use Rattle.ring.specs.declared.types.Ids.{Ids}
 use Rattle.base.specs.declared.types.MaybeTime.{MaybeTime}
 use Rattle.base.specs.Seq.{flagOf}
-use Rattle.image.specs.Image.{timeTag, timeValue, timeWords, idsWords, stopWords, marksWords}
+use Rattle.image.specs.Image.{timeTag, timeOrZero, timeWords, idsWords, stopWords, marksWords}
 
-pub stop-made : {x : MaybeStop} {tag value owed : ℕ} (s : Stop) → x ≡ Some s → tag ≡ timeTag (s .until) → value ≡ timeValue (s .until) → owed ≡ flagOf (s .owed)
+pub stop-made : {x : MaybeStop} {tag value owed : ℕ} (s : Stop) → x ≡ Some s → tag ≡ timeTag (s .until) → value ≡ timeOrZero (s .until) → owed ≡ flagOf (s .owed)
     → 1 ∷ s .free ∷ s .gap ∷ s .used ∷ tag ∷ value ∷ owed ∷ [] ≡ stopWords x
 stop-made s e a b c = rw (e, a, b, c)

@@ -2,11 +2,11 @@
 -- numbers and bytes"): all that a path keeps as 225 numbers of eight bytes, so that the two are compared field by field. What may be
 -- missing is a tag, 1 or 0, and a value, 0 if missing.
 use mathlib.Core.List.{List, [], _∷_, _++_}
-use mathlib.Core.Bool.{Bool}
+use mathlib.Core.Bool.{Bool, cond}
 use Prim.Native.Nat.{ℕ}
 use lib.Ieee.{Float, binary64, isNan, toBits}
 use lib.ListN.{replicate}
-use Rattle.base.specs.Seq.{pick, flagOf}
+use Rattle.base.specs.Seq.{flagOf}
 use Rattle.base.specs.declared.types.MaybeId.{MaybeId}
 use Rattle.base.specs.declared.types.MaybeId.the-variants as id
 use Rattle.base.specs.declared.types.MaybeTime.{MaybeTime}
@@ -32,69 +32,69 @@ abbrev pub idTag : MaybeId → ℕ
 idTag id.None = 0
 idTag (id.Some x) = 1
 
-abbrev pub idValue : MaybeId → ℕ
-idValue id.None = 0
-idValue (id.Some x) = x
+abbrev pub idOrZero : MaybeId → ℕ
+idOrZero id.None = 0
+idOrZero (id.Some x) = x
 
 -- an instant or a duration that may be missing
 abbrev pub timeTag : MaybeTime → ℕ
 timeTag time.None = 0
 timeTag (time.Some t) = 1
 
-abbrev pub timeValue : MaybeTime → ℕ
-timeValue time.None = 0
-timeValue (time.Some t) = t
+abbrev pub timeOrZero : MaybeTime → ℕ
+timeOrZero time.None = 0
+timeOrZero (time.Some t) = t
 
 abbrev pub timeWords : MaybeTime → List ℕ
-timeWords x = timeTag x ∷ timeValue x ∷ []
+timeWords x = timeTag x ∷ timeOrZero x ∷ []
 
 -- a length that may be missing
 abbrev pub lenTag : MaybeLen → ℕ
 lenTag len.None = 0
 lenTag (len.Some n) = 1
 
-abbrev pub lenValue : MaybeLen → ℕ
-lenValue len.None = 0
-lenValue (len.Some n) = n
+abbrev pub lenOrZero : MaybeLen → ℕ
+lenOrZero len.None = 0
+lenOrZero (len.Some n) = n
 
--- a place of the ring or of the late list; a free one is five zeros
+-- a place of the ring or of the late list: used, then what stands there, which says nothing where it is not used
 abbrev pub sentWords : Sent → List ℕ
 sentWords s = flagOf (s .used) ∷ s .«probe_id» ∷ s .at ∷ s .due ∷ s .len ∷ []
 
 -- the identifiers: next, answered, epoch, since
 abbrev pub idsWords : Ids → List ℕ
 idsWords m =
-    idTag (m .«next_id») ∷ idValue (m .«next_id») ∷ idTag (m .answered) ∷ idValue (m .answered)
-    ∷ idTag (m .epoch) ∷ idValue (m .epoch) ∷ idTag (m .since) ∷ idValue (m .since) ∷ []
+    idTag (m .«next_id») ∷ idOrZero (m .«next_id») ∷ idTag (m .answered) ∷ idOrZero (m .answered)
+    ∷ idTag (m .epoch) ∷ idOrZero (m .epoch) ∷ idTag (m .since) ∷ idOrZero (m .since) ∷ []
 
 -- the stop; seven zeros if there is none
 abbrev pub stopWords : MaybeStop → List ℕ
 stopWords stop.None = replicate 7 0
 stopWords (stop.Some s) =
-    1 ∷ s .free ∷ s .gap ∷ s .used ∷ timeTag (s .until) ∷ timeValue (s .until) ∷ flagOf (s .owed) ∷ []
+    1 ∷ s .free ∷ s .gap ∷ s .used ∷ timeTag (s .until) ∷ timeOrZero (s .until) ∷ flagOf (s .owed) ∷ []
 
 -- the misses; the last size and whether it fell; the proven size; the search's instant, probe, length and lost ones
 abbrev pub sizeWords : ℕ → Ladder → Sizes → List ℕ
 sizeWords misses l s =
-    misses ∷ lenTag (l .last) ∷ lenValue (l .last) ∷ flagOf (l .fallen) ∷ lenTag (s .proven) ∷ lenValue (s .proven)
-    ∷ timeTag (s .seek .at) ∷ timeValue (s .seek .at) ∷ s .seek .«probe_id» ∷ s .seek .len ∷ s .seek .lost ∷ []
+    misses ∷ lenTag (l .last) ∷ lenOrZero (l .last) ∷ flagOf (l .fallen) ∷ lenTag (s .proven) ∷ lenOrZero (s .proven)
+    ∷ timeTag (s .seek .at) ∷ timeOrZero (s .seek .at) ∷ s .seek .«probe_id» ∷ s .seek .len ∷ s .seek .lost ∷ []
 
 -- the frames received, their bytes, and when the last frame and the last session datagram came
 abbrev pub trafficWords : Traffic → List ℕ
 trafficWords t =
-    t .frames ∷ t .bytes ∷ timeTag (t .«heard_at») ∷ timeValue (t .«heard_at») ∷ timeTag (t .«data_at») ∷ timeValue (t .«data_at») ∷ []
+    t .frames ∷ t .bytes ∷ timeTag (t .«heard_at») ∷ timeOrZero (t .«heard_at») ∷ timeTag (t .«data_at») ∷ timeOrZero (t .«data_at») ∷ []
 
--- a sample; an empty place is three zeros
+-- a place of the samples: used, then what stands there
 abbrev pub sampleWords : Sample → List ℕ
 sampleWords s = flagOf (s .used) ∷ s .at ∷ s .rtt ∷ []
 
--- a span; an empty place is four zeros
+-- a place of the spans: used, then what stands there
 abbrev pub spanWords : Span → List ℕ
 spanWords s = flagOf (s .used) ∷ s .from ∷ s .to ∷ s .rtt ∷ []
 
 -- the ETX by its pattern; "only which NaN an operation on floats yields is left open", so every NaN is the quiet one without a payload
 abbrev pub etxBits : Float → ℕ
-etxBits x = pick (isNan x) 0x7ff8_0000_0000_0000 (toBits binary64 x)
+etxBits x = cond (isNan x) 0x7ff8_0000_0000_0000 (toBits binary64 x)
 
 -- the identifiers, the silence clock, the stop
 unfoldable pub marksWords : Ids → Silence → List ℕ
@@ -106,7 +106,7 @@ countsWords misses ladder sizes traffic = sizeWords misses ladder sizes ++ traff
 
 -- the last RTT, the samples, the spans
 unfoldable pub rttsWords : Rtts → List ℕ
-rttsWords r = timeWords (r .rtt) ++ flat sampleWords (r .rtts) ++ flat spanWords (r .spans)
+rttsWords r = timeWords (r .rtt) ++ flat sampleWords (r .samples) ++ flat spanWords (r .spans)
 
 -- all that stands before the RTTs: the ring, the late list, the marks, the counts
 unfoldable pub frontWords : Liveness → List ℕ

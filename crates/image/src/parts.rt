@@ -13,7 +13,7 @@ use seek::types::*;
 use stop::types::*;
 
 // The ring.
-fn write_ring(out: &mut [u8], ring: [Sent; 8]) -> bool
+fn write_ring(out: &mut [u8], ring: [Sent; RING]) -> bool
     ensures { λ r. ⌜ (r ≡ leb 320 (length (now (out .entry)))) × (now (out .exit) ≡ over (wordsOf (flat sentWords ring)) (now (out .entry))) ⌝ }
 {
     if out.len() < 320 {
@@ -21,7 +21,7 @@ fn write_ring(out: &mut [u8], ring: [Sent; 8]) -> bool
     }
     let mut i = 0;
     let mut at = 0;
-    while i < 8 {
+    while i < RING {
         let s = ring[i];
         let w = sent_words(s);
         put_words(&mut out[at..], &w);
@@ -32,7 +32,7 @@ fn write_ring(out: &mut [u8], ring: [Sent; 8]) -> bool
 }
 
 // The late list.
-fn write_late(out: &mut [u8], late: [Sent; 4]) -> bool
+fn write_late(out: &mut [u8], late: [Sent; LATE]) -> bool
     ensures { λ r. ⌜ (r ≡ leb 160 (length (now (out .entry)))) × (now (out .exit) ≡ over (wordsOf (flat sentWords late)) (now (out .entry))) ⌝ }
 {
     if out.len() < 160 {
@@ -40,7 +40,7 @@ fn write_late(out: &mut [u8], late: [Sent; 4]) -> bool
     }
     let mut i = 0;
     let mut at = 0;
-    while i < 4 {
+    while i < LATE {
         let s = late[i];
         let w = sent_words(s);
         put_words(&mut out[at..], &w);
@@ -51,16 +51,16 @@ fn write_late(out: &mut [u8], late: [Sent; 4]) -> bool
 }
 
 // The samples.
-fn write_samples(out: &mut [u8], rtts: [Sample; 32]) -> bool
-    ensures { λ r. ⌜ (r ≡ leb 768 (length (now (out .entry)))) × (now (out .exit) ≡ over (wordsOf (flat sampleWords rtts)) (now (out .entry))) ⌝ }
+fn write_samples(out: &mut [u8], samples: [Sample; SAMPLES]) -> bool
+    ensures { λ r. ⌜ (r ≡ leb 768 (length (now (out .entry)))) × (now (out .exit) ≡ over (wordsOf (flat sampleWords samples)) (now (out .entry))) ⌝ }
 {
     if out.len() < 768 {
         return false;
     }
     let mut i = 0;
     let mut at = 0;
-    while i < 32 {
-        let s = rtts[i];
+    while i < SAMPLES {
+        let s = samples[i];
         let w = sample_words(s);
         put_words(&mut out[at..], &w);
         at += 24;
@@ -70,7 +70,7 @@ fn write_samples(out: &mut [u8], rtts: [Sample; 32]) -> bool
 }
 
 // The spans.
-fn write_spans(out: &mut [u8], spans: [Span; 8]) -> bool
+fn write_spans(out: &mut [u8], spans: [Span; SPANS]) -> bool
     ensures { λ r. ⌜ (r ≡ leb 256 (length (now (out .entry)))) × (now (out .exit) ≡ over (wordsOf (flat spanWords spans)) (now (out .entry))) ⌝ }
 {
     if out.len() < 256 {
@@ -78,7 +78,7 @@ fn write_spans(out: &mut [u8], spans: [Span; 8]) -> bool
     }
     let mut i = 0;
     let mut at = 0;
-    while i < 8 {
+    while i < SPANS {
         let s = spans[i];
         let w = span_words(s);
         put_words(&mut out[at..], &w);
@@ -97,10 +97,10 @@ pub fn write_rtts(out: &mut [u8], r: Rtts) -> bool
     }
     let last = r.rtt;
     let w = time_words(last);
-    let rtts = r.rtts;
+    let samples = r.samples;
     let spans = r.spans;
     put_words(&mut out[0..], &w);
-    write_samples(&mut out[16..], rtts);
+    write_samples(&mut out[16..], samples);
     write_spans(&mut out[784..], spans);
     true
 }

@@ -1,6 +1,6 @@
 // The numbers of each part of a path, in the order of the image.
 ghost use mathlib.Core.Path.{_≡_};
-ghost use Rattle.image.specs.Image.{idTag, idValue, timeTag, timeValue, lenTag, lenValue, sentWords, idsWords, timeWords, stopWords, sizeWords, trafficWords, sampleWords, spanWords, etxBits};
+ghost use Rattle.image.specs.Image.{idTag, idOrZero, timeTag, timeOrZero, lenTag, lenOrZero, sentWords, idsWords, timeWords, stopWords, sizeWords, trafficWords, sampleWords, spanWords, etxBits};
 use base::types::*;
 use live::types::*;
 use ring::types::*;
@@ -20,7 +20,7 @@ fn id_tag(x: MaybeId) -> u64
 
 // The identifier, or 0.
 fn id_value(x: MaybeId) -> u64
-    ensures { λ r. ⌜ r ≡ idValue x ⌝ }
+    ensures { λ r. ⌜ r ≡ idOrZero x ⌝ }
 {
     match x {
         MaybeId::None => 0,
@@ -29,7 +29,7 @@ fn id_value(x: MaybeId) -> u64
 }
 
 // Whether there is an instant or a duration.
-fn time_tag(x: MaybeTime) -> u64
+pub fn time_tag(x: MaybeTime) -> u64
     ensures { λ r. ⌜ r ≡ timeTag x ⌝ }
 {
     match x {
@@ -39,8 +39,8 @@ fn time_tag(x: MaybeTime) -> u64
 }
 
 // The instant or the duration, or 0.
-fn time_value(x: MaybeTime) -> u64
-    ensures { λ r. ⌜ r ≡ timeValue x ⌝ }
+pub fn time_value(x: MaybeTime) -> u64
+    ensures { λ r. ⌜ r ≡ timeOrZero x ⌝ }
 {
     match x {
         MaybeTime::None => 0,
@@ -49,7 +49,7 @@ fn time_value(x: MaybeTime) -> u64
 }
 
 // Whether there is a length.
-fn len_tag(x: MaybeLen) -> u64
+pub fn len_tag(x: MaybeLen) -> u64
     ensures { λ r. ⌜ r ≡ lenTag x ⌝ }
 {
     match x {
@@ -59,8 +59,8 @@ fn len_tag(x: MaybeLen) -> u64
 }
 
 // The length, or 0.
-fn len_value(x: MaybeLen) -> u64
-    ensures { λ r. ⌜ r ≡ lenValue x ⌝ }
+pub fn len_value(x: MaybeLen) -> u64
+    ensures { λ r. ⌜ r ≡ lenOrZero x ⌝ }
 {
     match x {
         MaybeLen::None => 0,

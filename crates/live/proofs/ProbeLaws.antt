@@ -16,30 +16,28 @@ use Rattle.ring.specs.declared.types.Ids.{Ids}
 use Rattle.ring.specs.declared.lapse.Scanned.{Scanned}
 use Rattle.stop.specs.Silence.{quietFrom}
 use Rattle.stop.specs.declared.types.Silence.{Silence}
-use Rattle.live.specs.Path.{withProbes, withRing, withLate}
-use Rattle.live.specs.Probe.{noId, newSent, sentLadder, sendOf, answerOf, lapseAnswer, expireOf}
+use Rattle.live.specs.Path.{withRing, withLate, withSilence, withIds, withLadder, withMisses}
+use Rattle.live.specs.Answers.{refused}
+use Rattle.live.specs.Probe.{newSent, sentLadder, lapsedLadder, sendOf, answerOf, expireOf}
 use Rattle.live.specs.declared.types.Liveness.{Liveness}
-use Rattle.live.specs.declared.types.Sending.{Sending}
-use Rattle.live.specs.declared.types.Expired.{Expired}
-use Rattle.live.specs.declared.types.IdAnswer.the-variants as ids
-use Rattle.live.specs.declared.types.Answer.the-variants as answers
-use Rattle.live.specs.declared.types.Expired.the-variants as expired
+use Rattle.live.specs.declared.types.Outcome.{Outcome}
+use Rattle.live.specs.declared.types.Answer.the-variants as answer
 
 module _ (p : Liveness) (at due n draw : ℕ) where
-  pub send-long : {r : Sending} → 65535 < n → r ≡ noId p Length → r ≡ sendOf p at due n draw
+  pub send-long : {r : Outcome} → 65535 < n → r ≡ refused p Length → r ≡ sendOf p at due n draw
   unfolding sendOf
   send-long h e = rw (lt-ltb 65535 n h) e
 
   module _ (h : n ≤ 65535) {slot : ℕ} (a : slot ≡ firstFree (p .ring)) where
-    pub send-full : {r : Sending} → 8 ≤ slot → r ≡ noId p Full → r ≡ sendOf p at due n draw
+    pub send-full : {r : Outcome} → 8 ≤ slot → r ≡ refused p Full → r ≡ sendOf p at due n draw
     unfolding sendOf
     send-full b e = rw (le-ltb 65535 n h, sym a, le-leb 8 slot b) e
 
     pub send-made : {kept ids′ : Ids} {id : ℕ} {silence : Silence} → slot < 8 → kept ≡ dropSince (p .ids) (p .ring) → id ≡ takenOf (kept .«next_id») draw
         → ids′ ≡ nextIds kept id → silence ≡ quietFrom (p .silence) at
         → record {
-          path = withProbes p (set (p .ring) slot (newSent id at due n)) (p .late) silence ids′ (sentLadder (p .ladder) n) (p .misses);
-          answer = ids.Id id;
+          path = withRing (withIds (withLadder (withSilence p silence) (sentLadder (p .ladder) n)) ids′) (set (p .ring) slot (newSent id at due n));
+          answer = answer.Id id;
         } ≡ sendOf p at due n draw
     unfolding sendOf
     send-made {kept} {ids′} {id} {silence} b c d e f = rw (f, e, d, c, le-ltb 65535 n h, sym a, lt-leb 8 slot b)
@@ -47,39 +45,39 @@ module _ (p : Liveness) (at due n draw : ℕ) where
 module _ (p : Liveness) (id : ℕ) {slot : ℕ} (a : slot ≡ found id (p .ring)) where
   pub answer-in-time : {ring : List Sent} {ids′ : Ids} → slot < 8 → ring ≡ takenOut 8 (p .ring) slot → ids′ ≡ answeredIds (p .ids) id
       → record {
-        path = withProbes p ring (p .late) (p .silence) ids′ (p .ladder) 0;
-        answer = answers.InTime (getD (p .ring) slot noSent);
+        path = withRing (withMisses (withIds p ids′) 0) ring;
+        answer = answer.InTime (getD (p .ring) slot noSent);
       } ≡ answerOf p id
   unfolding answerOf
   answer-in-time {ring} {ids′} b d e = rw (e, d, sym a, lt-ltb slot 8 b)
 
   module _ (b : 8 ≤ slot) {place : ℕ} (c : place ≡ found id (p .late)) where
     pub answer-late : {free : Sent} → place < 4 → free ≡ noSent
-        → record { path = withLate p (set (p .late) place free); answer = answers.Late (getD (p .late) place noSent) } ≡ answerOf p id
+        → record { path = withLate p (set (p .late) place free); answer = answer.Late (getD (p .late) place noSent) } ≡ answerOf p id
     unfolding answerOf
     answer-late {free} d e = rw (e, sym a, le-ltb slot 8 b, sym c, lt-ltb place 4 d)
 
-    pub answer-unknown : 4 ≤ place → record { path = p; answer = answers.Refused Unknown } ≡ answerOf p id
+    pub answer-unknown : {r : Outcome} → 4 ≤ place → r ≡ refused p Unknown → r ≡ answerOf p id
     unfolding answerOf
-    answer-unknown d = rw (sym a, le-ltb slot 8 b, sym c, le-ltb place 4 d)
+    answer-unknown d e = rw (sym a, le-ltb slot 8 b, sym c, le-ltb place 4 d) e
 
 module _ (p : Liveness) (now : ℕ) (overdue : Bool) (cap : ℕ) where
-  pub expire-long : 2 ^ 62 ≤ cap → record { path = p; answer = expired.Refused Duration } ≡ expireOf p now overdue cap
+  pub expire-long : {r : Outcome} → 2 ^ 62 ≤ cap → r ≡ refused p Duration → r ≡ expireOf p now overdue cap
   unfolding expireOf
-  expire-long h = rw (le-leb (2 ^ 62) cap h)
+  expire-long h e = rw (le-leb (2 ^ 62) cap h) e
 
   module _ (h : cap < 2 ^ 62) {left : Scanned} (a : left ≡ scanOf (isPassed now overdue) (deferOf (p .traffic .«data_at») cap now overdue) (p .ring)) where
-    pub expire-none : 8 ≤ left .slot → record { path = withRing p (left .ring); answer = expired.None } ≡ expireOf p now overdue cap
+    pub expire-none : 8 ≤ left .slot → record { path = withRing p (left .ring); answer = answer.Idle } ≡ expireOf p now overdue cap
     unfolding expireOf
     expire-none b = rw (lt-leb (2 ^ 62) cap h, sym a, le-leb 8 (left .slot) b)
 
-    pub expire-made : {s : Sent} {ring late : List Sent} {miss fall : Bool} {misses : ℕ} {answer : Expired} → left .slot < 8 → s ≡ getD (left .ring) (left .slot) noSent
+    pub expire-made : {s : Sent} {ring late : List Sent} {miss fall : Bool} {misses : ℕ} → left .slot < 8 → s ≡ getD (left .ring) (left .slot) noSent
         → ring ≡ takenOut 8 (left .ring) (left .slot) → late ≡ remembered (p .late) s → miss ≡ isCounted (p .ids) (s .«probe_id»)
-        → fall ≡ isPadded (p .ids) s → misses ≡ missedBy (p .misses) miss → answer ≡ lapseAnswer miss
+        → fall ≡ isPadded (p .ids) s → misses ≡ missedBy (p .misses) miss
         → record {
-          path = withProbes p ring late (p .silence) (p .ids) (record { last = p .ladder .last; fallen = fall || p .ladder .fallen }) misses;
-          answer = answer;
+          path = withRing (withLate (withMisses (withLadder p (lapsedLadder (p .ladder) fall)) misses) late) ring;
+          answer = answer.Lapsed miss;
         } ≡ expireOf p now overdue cap
     unfolding expireOf
-    expire-made {s} {ring} {late} {miss} {fall} {misses} {answer} b c d e f g k m =
-        rw (m, k, g, f, e, d, c, lt-leb (2 ^ 62) cap h, sym a, lt-leb 8 (left .slot) b)
+    expire-made {s} {ring} {late} {miss} {fall} {misses} b c d e f g k =
+        rw (k, g, f, e, d, c, lt-leb (2 ^ 62) cap h, sym a, lt-leb 8 (left .slot) b)

@@ -1,117 +1,104 @@
--- Document 01's number and value for each case of each answer: the refusal number, 0 if accepted; a refusal has value 0.
+-- What the methods answer: document 01's number and value for each case, and the one shape of a refusal.
 use Prim.Native.Nat.{ℕ}
+use mathlib.Core.Bool.{Bool, true, false, cond}
 use mathlib.Core.List.{List, [], _∷_}
 use Rattle.base.specs.Refusals.{refusalNumber}
-use Rattle.live.specs.declared.types.IdAnswer.{IdAnswer}
-use Rattle.live.specs.declared.types.IdAnswer.the-variants as ids
+use Rattle.base.specs.Seq.{flagOf}
+use Rattle.base.specs.declared.types.Refusal.{Refusal}
+use Rattle.ring.specs.Ring.{noSent}
+use Rattle.ring.specs.declared.types.Sent.{Sent}
+use Rattle.live.specs.declared.types.Liveness.{Liveness}
+use Rattle.live.specs.declared.types.Outcome.{Outcome}
 use Rattle.live.specs.declared.types.Answer.{Answer}
-use Rattle.live.specs.declared.types.Answer.the-variants as answers
-use Rattle.live.specs.declared.types.Expired.{Expired}
-use Rattle.live.specs.declared.types.Expired.the-variants as expired
-use Rattle.live.specs.declared.types.Done.{Done}
-use Rattle.live.specs.declared.types.Done.the-variants as done
-use Rattle.live.specs.declared.types.LenAnswer.{LenAnswer}
-use Rattle.live.specs.declared.types.LenAnswer.the-variants as lens
-use Rattle.live.specs.declared.types.TimeAnswer.{TimeAnswer}
-use Rattle.live.specs.declared.types.TimeAnswer.the-variants as times
-use Rattle.live.specs.declared.types.ProveAnswer.{ProveAnswer}
-use Rattle.live.specs.declared.types.ProveAnswer.the-variants as proves
-use Rattle.live.specs.declared.types.RaiseAnswer.{RaiseAnswer}
-use Rattle.live.specs.declared.types.RaiseAnswer.the-variants as raises
-use Rattle.live.specs.declared.types.JudgeAnswer.{JudgeAnswer}
-use Rattle.live.specs.declared.types.JudgeAnswer.the-variants as judges
+use Rattle.live.specs.declared.types.Answer.the-variants.{Done, Id, InTime, Late, Idle, Lapsed, Len, Time, Flag, Refused}
 
--- `send`, `seek_send`, `seek_ring`: the identifier
-abbrev pub idNumber : IdAnswer → ℕ
-idNumber (ids.Id id) = 0
-idNumber (ids.Refused why) = refusalNumber why
-
-abbrev pub idValue : IdAnswer → ℕ
-idValue (ids.Id id) = id
-idValue (ids.Refused why) = 0
-
--- `answer`: 1 in time, 2 late
+-- the refusal number, 0 if accepted
 abbrev pub answerNumber : Answer → ℕ
-answerNumber (answers.InTime s) = 0
-answerNumber (answers.Late s) = 0
-answerNumber (answers.Refused why) = refusalNumber why
+answerNumber Done = 0
+answerNumber (Id id) = 0
+answerNumber (InTime s) = 0
+answerNumber (Late s) = 0
+answerNumber Idle = 0
+answerNumber (Lapsed miss) = 0
+answerNumber (Len n) = 0
+answerNumber (Time t) = 0
+answerNumber (Flag on) = 0
+answerNumber (Refused why) = refusalNumber why
 
+-- the value: an identifier, a length or a duration itself, a flag as 1 or 0; an answer in time is 1, a late one 2; a lapse that was a
+-- miss is 1, one that was none 2; else 0
 abbrev pub answerValue : Answer → ℕ
-answerValue (answers.InTime s) = 1
-answerValue (answers.Late s) = 2
-answerValue (answers.Refused why) = 0
+answerValue Done = 0
+answerValue (Id id) = id
+answerValue (InTime s) = 1
+answerValue (Late s) = 2
+answerValue Idle = 0
+answerValue (Lapsed miss) = cond miss 1 2
+answerValue (Len n) = n
+answerValue (Time t) = t
+answerValue (Flag on) = flagOf on
+answerValue (Refused why) = 0
 
--- and the probe: identifier, sent instant, due, length; nothing for a refusal
+-- the probe that `answer` found, or none
+abbrev pub answerSent : Answer → Sent
+answerSent Done = noSent
+answerSent (Id id) = noSent
+answerSent (InTime s) = s
+answerSent (Late s) = s
+answerSent Idle = noSent
+answerSent (Lapsed miss) = noSent
+answerSent (Len n) = noSent
+answerSent (Time t) = noSent
+answerSent (Flag on) = noSent
+answerSent (Refused why) = noSent
+
+-- its identifier, sent instant, due and length; four zeros where there is none
 abbrev pub answerProbe : Answer → List ℕ
-answerProbe (answers.InTime s) = s .«probe_id» ∷ s .at ∷ s .due ∷ s .len ∷ []
-answerProbe (answers.Late s) = s .«probe_id» ∷ s .at ∷ s .due ∷ s .len ∷ []
-answerProbe (answers.Refused why) = 0 ∷ 0 ∷ 0 ∷ 0 ∷ []
+answerProbe a = answerSent a .«probe_id» ∷ answerSent a .at ∷ answerSent a .due ∷ answerSent a .len ∷ []
 
--- `expire`: 0 none lapsed, 1 one lapsed and counted as a miss, 2 one lapsed and did not
-abbrev pub expiredNumber : Expired → ℕ
-expiredNumber expired.None = 0
-expiredNumber expired.Counted = 0
-expiredNumber expired.NotCounted = 0
-expiredNumber (expired.Refused why) = refusalNumber why
+-- whether the call was carried out
+abbrev pub isAccepted : Answer → Bool
+isAccepted Done = true
+isAccepted (Id id) = true
+isAccepted (InTime s) = true
+isAccepted (Late s) = true
+isAccepted Idle = true
+isAccepted (Lapsed miss) = true
+isAccepted (Len n) = true
+isAccepted (Time t) = true
+isAccepted (Flag on) = true
+isAccepted (Refused why) = false
 
-abbrev pub expiredValue : Expired → ℕ
-expiredValue expired.None = 0
-expiredValue expired.Counted = 1
-expiredValue expired.NotCounted = 2
-expiredValue (expired.Refused why) = 0
+-- whether `expire` found a probe that lapses
+abbrev pub hasLapsed : Answer → Bool
+hasLapsed Done = false
+hasLapsed (Id id) = false
+hasLapsed (InTime s) = false
+hasLapsed (Late s) = false
+hasLapsed Idle = false
+hasLapsed (Lapsed miss) = true
+hasLapsed (Len n) = false
+hasLapsed (Time t) = false
+hasLapsed (Flag on) = false
+hasLapsed (Refused why) = false
 
--- `sample`, `heard`, `shed`: nothing but the refusal
-abbrev pub doneNumber : Done → ℕ
-doneNumber done.Done = 0
-doneNumber (done.Refused why) = refusalNumber why
+-- an answer in time is a matching one, a late one is not (the Rust's `Answer::matching`)
+abbrev pub isMatching : Answer → Bool
+isMatching Done = false
+isMatching (Id id) = false
+isMatching (InTime s) = true
+isMatching (Late s) = false
+isMatching Idle = false
+isMatching (Lapsed miss) = false
+isMatching (Len n) = false
+isMatching (Time t) = false
+isMatching (Flag on) = false
+isMatching (Refused why) = false
 
--- `size`, `seek_size`, `seek_answer`: a length
-abbrev pub lenNumber : LenAnswer → ℕ
-lenNumber (lens.Len n) = 0
-lenNumber (lens.Refused why) = refusalNumber why
+-- a refusal returns the path as it came
+abbrev pub refused : Liveness → Refusal → Outcome
+refused p why = record { path = p; answer = Refused why }
 
-abbrev pub lenValue : LenAnswer → ℕ
-lenValue (lens.Len n) = n
-lenValue (lens.Refused why) = 0
-
--- `timeout`: a duration
-abbrev pub timeNumber : TimeAnswer → ℕ
-timeNumber (times.Time t) = 0
-timeNumber (times.Refused why) = refusalNumber why
-
-abbrev pub timeValue : TimeAnswer → ℕ
-timeValue (times.Time t) = t
-timeValue (times.Refused why) = 0
-
--- `prove`: 1 if the proven size changed
-abbrev pub proveNumber : ProveAnswer → ℕ
-proveNumber proves.Changed = 0
-proveNumber proves.Same = 0
-proveNumber (proves.Refused why) = refusalNumber why
-
-abbrev pub proveValue : ProveAnswer → ℕ
-proveValue proves.Changed = 1
-proveValue proves.Same = 0
-proveValue (proves.Refused why) = 0
-
--- `seek_proved`: 1 if the proven size rose
-abbrev pub raiseNumber : RaiseAnswer → ℕ
-raiseNumber raises.Raised = 0
-raiseNumber raises.Kept = 0
-raiseNumber (raises.Refused why) = refusalNumber why
-
-abbrev pub raiseValue : RaiseAnswer → ℕ
-raiseValue raises.Raised = 1
-raiseValue raises.Kept = 0
-raiseValue (raises.Refused why) = 0
-
--- `seek_judge`: 1 if lost now
-abbrev pub judgeNumber : JudgeAnswer → ℕ
-judgeNumber judges.Lost = 0
-judgeNumber judges.Waits = 0
-judgeNumber (judges.Refused why) = refusalNumber why
-
-abbrev pub judgeValue : JudgeAnswer → ℕ
-judgeValue judges.Lost = 1
-judgeValue judges.Waits = 0
-judgeValue (judges.Refused why) = 0
+-- the path after a call that has nothing to say
+abbrev pub done : Liveness → Outcome
+done p = record { path = p; answer = Done }

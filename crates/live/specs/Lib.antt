@@ -1,7 +1,7 @@
 -- One path: the parts' rules put together, and the refusals of the callable methods.
 pub mod Path
 pub mod New
+pub mod Answers
 pub mod Probe
 pub mod Search
 pub mod Times
-pub mod Answers

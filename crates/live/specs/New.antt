@@ -7,7 +7,7 @@ use lib.Ieee
 use Rattle.base.specs.declared.types.MaybeId.the-variants as id
 use Rattle.base.specs.declared.types.MaybeTime.the-variants as time
 use Rattle.base.specs.declared.types.MaybeLen.the-variants as len
-use Rattle.ring.specs.Ring.{noSent, outstandingOf}
+use Rattle.ring.specs.Ring.{maxWaiting, maxLate, noSent, outstandingOf}
 use Rattle.rtt.specs.Rtts.{newRtts}
 use Rattle.seek.specs.Search.{newSeek}
 use Rattle.stop.specs.Silence.{newSilence}
@@ -18,8 +18,8 @@ abbrev pub newLiveness : Liveness
 newLiveness =
     record {
       rtts = newRtts;
-      ring = replicate 8 noSent;
-      late = replicate 4 noSent;
+      ring = replicate maxWaiting noSent;
+      late = replicate maxLate noSent;
       silence = newSilence;
       ids = record { «next_id» = id.None; answered = id.None; epoch = id.None; since = id.None };
       sizes = record { seek = newSeek; proven = len.None };
@@ -31,4 +31,4 @@ newLiveness =
 
 -- fewer probes wait than cap and than the ring's eight places
 abbrev pub roomOf : Liveness → ℕ → Bool
-roomOf p cap = ltb (outstandingOf (p .ring)) cap && ltb (outstandingOf (p .ring)) 8
+roomOf p cap = ltb (outstandingOf (p .ring)) cap && ltb (outstandingOf (p .ring)) maxWaiting

@@ -11,8 +11,8 @@ use Rattle.stop.specs.declared.types.Silence.{Silence}
 use Rattle.live.specs.declared.types.Traffic.{Traffic}
 use Rattle.live.specs.declared.types.Liveness.{Liveness}
 
--- another ring, late list, silence, identifiers, ladder and misses: all that a probe changes
-abbrev pub withProbes : Liveness → List Sent → List Sent → Silence → Ids → Ladder → ℕ → Liveness
+-- all that a probe changes, and apart from it all that no probe of the ring changes: for the definitions below alone
+abbrev withProbes : Liveness → List Sent → List Sent → Silence → Ids → Ladder → ℕ → Liveness
 withProbes p ring late silence ids ladder misses =
     record {
       rtts = p .rtts;
@@ -27,24 +27,7 @@ withProbes p ring late silence ids ladder misses =
       misses = misses;
     }
 
--- another ring
-abbrev pub withRing : Liveness → List Sent → Liveness
-withRing p ring = withProbes p ring (p .late) (p .silence) (p .ids) (p .ladder) (p .misses)
-
--- another late list
-abbrev pub withLate : Liveness → List Sent → Liveness
-withLate p late = withProbes p (p .ring) late (p .silence) (p .ids) (p .ladder) (p .misses)
-
--- other identifiers
-abbrev pub withIds : Liveness → Ids → Liveness
-withIds p ids = withProbes p (p .ring) (p .late) (p .silence) ids (p .ladder) (p .misses)
-
--- another silence clock or stop
-abbrev pub withSilence : Liveness → Silence → Liveness
-withSilence p silence = withProbes p (p .ring) (p .late) silence (p .ids) (p .ladder) (p .misses)
-
--- other RTTs, sizes, traffic and ETX: all that no probe of the ring changes
-abbrev pub withMeasures : Liveness → Rtts → Sizes → Traffic → Float → Liveness
+abbrev withMeasures : Liveness → Rtts → Sizes → Traffic → Float → Liveness
 withMeasures p rtts sizes traffic etx =
     record {
       rtts = rtts;
@@ -58,6 +41,30 @@ withMeasures p rtts sizes traffic etx =
       etx = etx;
       misses = p .misses;
     }
+
+-- another ring
+abbrev pub withRing : Liveness → List Sent → Liveness
+withRing p ring = withProbes p ring (p .late) (p .silence) (p .ids) (p .ladder) (p .misses)
+
+-- another late list
+abbrev pub withLate : Liveness → List Sent → Liveness
+withLate p late = withProbes p (p .ring) late (p .silence) (p .ids) (p .ladder) (p .misses)
+
+-- another silence clock or stop
+abbrev pub withSilence : Liveness → Silence → Liveness
+withSilence p silence = withProbes p (p .ring) (p .late) silence (p .ids) (p .ladder) (p .misses)
+
+-- other identifiers
+abbrev pub withIds : Liveness → Ids → Liveness
+withIds p ids = withProbes p (p .ring) (p .late) (p .silence) ids (p .ladder) (p .misses)
+
+-- another last size, or fallen
+abbrev pub withLadder : Liveness → Ladder → Liveness
+withLadder p ladder = withProbes p (p .ring) (p .late) (p .silence) (p .ids) ladder (p .misses)
+
+-- other misses
+abbrev pub withMisses : Liveness → ℕ → Liveness
+withMisses p misses = withProbes p (p .ring) (p .late) (p .silence) (p .ids) (p .ladder) misses
 
 -- other RTTs
 abbrev pub withRtts : Liveness → Rtts → Liveness

@@ -1,32 +1,26 @@
 -- Probes sent, answered and lapsed (document 01, "Identifiers" and "Ring (8) and late list (4)"), with the refusals 5, 6, 8 and 9.
-use Prim.Native.Nat.{ℕ, _^_}
+use Prim.Native.Nat.{ℕ}
 use mathlib.Core.List.{List}
-use mathlib.Core.Bool.{Bool, true, false, _||_}
+use mathlib.Core.Bool.{Bool, true, cond, _||_}
 use lib.ListN.{set, getD, replicate}
 use lib.Dec.{leb, ltb}
-use Rattle.base.specs.Seq.{pick}
-use Rattle.base.specs.declared.types.Refusal.{Refusal}
+use Rattle.base.specs.Limits.{isOverlong, isEndless}
 use Rattle.base.specs.declared.types.Refusal.the-variants.{Length, Duration, Full, Unknown}
 use Rattle.base.specs.declared.types.MaybeLen.the-variants as len
 use Rattle.ring.specs.Ids.{takenOf, nextIds, answeredIds, thawedIds, isCounted, missedBy}
-use Rattle.ring.specs.Ring.{firstFree, dropSince, noSent, found, takenOut, remembered, swept}
+use Rattle.ring.specs.Ring.{maxWaiting, maxLate, firstFree, dropSince, noSent, found, takenOut, remembered, swept}
 use Rattle.ring.specs.Lapse.{isPassed, deferOf, scanOf, isPadded}
 use Rattle.ring.specs.declared.types.Sent.{Sent}
 use Rattle.ring.specs.declared.types.Ids.{Ids}
 use Rattle.ring.specs.declared.lapse.Scanned.{Scanned}
 use Rattle.seek.specs.declared.types.Ladder.{Ladder}
 use Rattle.stop.specs.Silence.{quietFrom}
-use Rattle.live.specs.Path.{withProbes, withRing, withLate, withIds}
+use Rattle.live.specs.Path.{withRing, withLate, withSilence, withIds, withLadder, withMisses}
+use Rattle.live.specs.Answers.{refused}
 use Rattle.live.specs.declared.types.Liveness.{Liveness}
 use Rattle.live.specs.declared.types.Taking.{Taking}
-use Rattle.live.specs.declared.types.Sending.{Sending}
-use Rattle.live.specs.declared.types.IdAnswer.the-variants as ids
-use Rattle.live.specs.declared.types.Answering.{Answering}
-use Rattle.live.specs.declared.types.Answer.{Answer}
-use Rattle.live.specs.declared.types.Answer.the-variants as answers
-use Rattle.live.specs.declared.types.Expiring.{Expiring}
-use Rattle.live.specs.declared.types.Expired.{Expired}
-use Rattle.live.specs.declared.types.Expired.the-variants as expired
+use Rattle.live.specs.declared.types.Outcome.{Outcome}
+use Rattle.live.specs.declared.types.Answer.the-variants as answer
 
 -- ---- identifiers
 
@@ -41,10 +35,6 @@ thawOf p = withIds p (thawedIds (p .ids))
 
 -- ---- send
 
--- a refusal returns the path as it came
-abbrev pub noId : Liveness → Refusal → Sending
-noId p why = record { path = p; answer = ids.Refused why }
-
 -- the probe as it stands in the ring
 abbrev pub newSent : ℕ → ℕ → ℕ → ℕ → Sent
 newSent id at due n = record { at = at; due = due; «probe_id» = id; len = n; used = true }
@@ -53,61 +43,52 @@ newSent id at due n = record { at = at; due = due; «probe_id» = id; len = n; u
 abbrev pub sentLadder : Ladder → ℕ → Ladder
 sentLadder l n = record { last = len.Some n; fallen = l .fallen }
 
--- the probe goes to a place of the ring and takes the next identifier; `since` is dropped if every waiting probe counts;
--- `quiet` keeps the first send's instant
-abbrev pub sentAt : Liveness → ℕ → Ids → ℕ → ℕ → ℕ → ℕ → Sending
-sentAt p slot kept id at due n =
-    record {
-      path =
-          withProbes p (set (p .ring) slot (newSent id at due n)) (p .late) (quietFrom (p .silence) at) (nextIds kept id)
-          (sentLadder (p .ladder) n) (p .misses);
-      answer = ids.Id id;
-    }
+-- the probe stands in a place of the ring under the identifier taken; its size is the last one; `quiet` keeps the first send's instant
+abbrev pub sentPath : Liveness → ℕ → Ids → ℕ → ℕ → ℕ → ℕ → Liveness
+sentPath p slot kept id at due n =
+    withRing
+    (withIds (withLadder (withSilence p (quietFrom (p .silence) at)) (sentLadder (p .ladder) n)) (nextIds kept id))
+    (set (p .ring) slot (newSent id at due n))
 
--- 5 for a length above 65,535; `send` takes the first free place; with eight waiting it takes no identifier: 8
-unfoldable pub sendOf : Liveness → ℕ → ℕ → ℕ → ℕ → Sending
+-- and the identifier is the answer
+abbrev pub sentAt : Liveness → ℕ → Ids → ℕ → ℕ → ℕ → ℕ → Outcome
+sentAt p slot kept id at due n = record { path = sentPath p slot kept id at due n; answer = answer.Id id }
+
+-- 5 for a length above 65,535; `send` takes the first free place and the next identifier, and drops `since` if every waiting probe
+-- counts; with eight waiting it takes no identifier: 8
+unfoldable pub sendOf : Liveness → ℕ → ℕ → ℕ → ℕ → Outcome
 sendOf p at due n draw =
-    pick (ltb 65535 n)
-    (noId p Length)
-    (pick (leb 8 (firstFree (p .ring)))
-    (noId p Full)
+    cond (isOverlong n)
+    (refused p Length)
+    (cond (leb maxWaiting (firstFree (p .ring)))
+    (refused p Full)
     (sentAt p (firstFree (p .ring)) (dropSince (p .ids) (p .ring)) (takenOf (dropSince (p .ids) (p .ring) .«next_id») draw) at due n))
 
 -- ---- answer
 
--- an answer in time is a matching one, a late one is not (the Rust's `Answer::matching`)
-abbrev pub isMatching : Answer → Bool
-isMatching (answers.InTime s) = true
-isMatching (answers.Late s) = false
-isMatching (answers.Refused why) = false
-
 -- in time means still in the ring: the ring closes up, misses become 0, `answered` moves only from none or to a later identifier
-abbrev pub answeredAt : Liveness → ℕ → ℕ → Answering
+abbrev pub answeredAt : Liveness → ℕ → ℕ → Outcome
 answeredAt p slot id =
     record {
-      path = withProbes p (takenOut 8 (p .ring) slot) (p .late) (p .silence) (answeredIds (p .ids) id) (p .ladder) 0;
-      answer = answers.InTime (getD (p .ring) slot noSent);
+      path = withRing (withMisses (withIds p (answeredIds (p .ids) id)) 0) (takenOut maxWaiting (p .ring) slot);
+      answer = answer.InTime (getD (p .ring) slot noSent);
     }
 
 -- a late answer takes the probe out of the late list, and changes nothing else
-abbrev pub lateAt : Liveness → ℕ → Answering
+abbrev pub lateAt : Liveness → ℕ → Outcome
 lateAt p place =
-    record { path = withLate p (set (p .late) place noSent); answer = answers.Late (getD (p .late) place noSent) }
+    record { path = withLate p (set (p .late) place noSent); answer = answer.Late (getD (p .late) place noSent) }
 
 -- `answer` looks in the ring, then the late list; 9 for an identifier that is in neither
-unfoldable pub answerOf : Liveness → ℕ → Answering
+unfoldable pub answerOf : Liveness → ℕ → Outcome
 answerOf p id =
-    pick (ltb (found id (p .ring)) 8)
+    cond (ltb (found id (p .ring)) maxWaiting)
     (answeredAt p (found id (p .ring)) id)
-    (pick (ltb (found id (p .late)) 4)
+    (cond (ltb (found id (p .late)) maxLate)
     (lateAt p (found id (p .late)))
-    (record { path = p; answer = answers.Refused Unknown }))
+    (refused p Unknown))
 
 -- ---- expire
-
--- whether the lapse was a miss
-abbrev pub lapseAnswer : Bool → Expired
-lapseAnswer miss = pick miss expired.Counted expired.NotCounted
 
 -- the ladder after a lapse: `fallen` is set by a padded one
 abbrev pub lapsedLadder : Ladder → Bool → Ladder
@@ -115,28 +96,33 @@ lapsedLadder l fall = record { last = l .last; fallen = fall || l .fallen }
 
 -- the probe s at a place of what the scan left lapses: it leaves the ring, which closes up, and enters the late list at the end;
 -- a miss counts
-abbrev pub lapsedAt : Liveness → List Sent → ℕ → Sent → Expiring
+abbrev pub lapsedPath : Liveness → List Sent → ℕ → Sent → Liveness
+lapsedPath p ring slot s =
+    withRing
+    (withLate
+    (withMisses
+    (withLadder p (lapsedLadder (p .ladder) (isPadded (p .ids) s)))
+    (missedBy (p .misses) (isCounted (p .ids) (s .«probe_id»))))
+    (remembered (p .late) s))
+    (takenOut maxWaiting ring slot)
+
+-- and whether it was a miss is the answer
+abbrev pub lapsedAt : Liveness → List Sent → ℕ → Sent → Outcome
 lapsedAt p ring slot s =
-    record {
-      path =
-          withProbes p (takenOut 8 ring slot) (remembered (p .late) s) (p .silence) (p .ids)
-          (lapsedLadder (p .ladder) (isPadded (p .ids) s))
-          (missedBy (p .misses) (isCounted (p .ids) (s .«probe_id»)));
-      answer = lapseAnswer (isCounted (p .ids) (s .«probe_id»));
-    }
+    record { path = lapsedPath p ring slot s; answer = answer.Lapsed (isCounted (p .ids) (s .«probe_id»)) }
 
 -- where none lapses, what was deferred stays deferred
-abbrev pub expiredBy : Liveness → Scanned → Expiring
+abbrev pub expiredBy : Liveness → Scanned → Outcome
 expiredBy p c =
-    pick (leb 8 (c .slot))
-    (record { path = withRing p (c .ring); answer = expired.None })
+    cond (leb maxWaiting (c .slot))
+    (record { path = withRing p (c .ring); answer = answer.Idle })
     (lapsedAt p (c .ring) (c .slot) (getD (c .ring) (c .slot) noSent))
 
 -- 6 for a cap of 2 ^ 62 or more; `expire` takes the first probe whose due has passed and that is not deferred
-unfoldable pub expireOf : Liveness → ℕ → Bool → ℕ → Expiring
+unfoldable pub expireOf : Liveness → ℕ → Bool → ℕ → Outcome
 expireOf p now overdue cap =
-    pick (leb (2 ^ 62) cap)
-    (record { path = p; answer = expired.Refused Duration })
+    cond (isEndless cap)
+    (refused p Duration)
     (expiredBy p (scanOf (isPassed now overdue) (deferOf (p .traffic .«data_at») cap now overdue) (p .ring)))
 
 -- ---- late list and ring as a whole
@@ -147,4 +133,4 @@ lapseOf p s = withLate p (remembered (p .late) s)
 
 -- `clear`: every waiting probe enters the late list, in ring order; no miss
 abbrev pub clearOf : Liveness → Liveness
-clearOf p = withProbes p (replicate 8 noSent) (swept (p .late) (p .ring)) (p .silence) (p .ids) (p .ladder) (p .misses)
+clearOf p = withRing (withLate p (swept (p .late) (p .ring))) (replicate maxWaiting noSent)

@@ -1,10 +1,8 @@
 -- Round trips, ETX, frames received and the stop of a path (document 01, "RTT, ETX, score" and "Files and tail"), with the refusals
 -- 5 and 6. The counters are the Rust's: one frame and its bytes more or less, modulo 2 ^ 32.
 use Prim.Native.Nat.{ℕ, _+_, _-_, _%_, _^_}
-use mathlib.Core.Bool.{Bool, true, false}
-use lib.Dec.{leb, ltb}
-use Rattle.base.specs.Seq.{pick}
-use Rattle.base.specs.declared.types.Refusal.{Refusal}
+use mathlib.Core.Bool.{Bool, cond}
+use Rattle.base.specs.Limits.{isOverlong, isEndless}
 use Rattle.base.specs.declared.types.Refusal.the-variants.{Length, Duration}
 use Rattle.base.specs.declared.types.MaybeTime.the-variants as time
 use Rattle.etx.specs.Etx.{foldOf}
@@ -13,44 +11,36 @@ use Rattle.rtt.specs.Samples.{maxRtt}
 use Rattle.rtt.specs.Times as times
 use Rattle.stop.specs.Silence as stop
 use Rattle.live.specs.Path.{withRtts, withTraffic, withSilence, withEtx}
+use Rattle.live.specs.Answers.{refused, done}
 use Rattle.live.specs.declared.types.Traffic.{Traffic}
 use Rattle.live.specs.declared.types.Liveness.{Liveness}
-use Rattle.live.specs.declared.types.Doing.{Doing}
-use Rattle.live.specs.declared.types.Done.the-variants as done
-use Rattle.live.specs.declared.types.TimeAnswer.{TimeAnswer}
-use Rattle.live.specs.declared.types.TimeAnswer.the-variants as answers
-
--- a refusal returns the path as it came
-abbrev pub refusedDoing : Liveness → Refusal → Doing
-refusedDoing p why = record { path = p; answer = done.Refused why }
-
--- the path after a call that has nothing else to say
-abbrev pub doneWith : Liveness → Doing
-doneWith p = record { path = p; answer = done.Done }
+use Rattle.live.specs.declared.types.Outcome.{Outcome}
+use Rattle.live.specs.declared.types.Answer.{Answer}
+use Rattle.live.specs.declared.types.Answer.the-variants.{Time, Refused}
 
 -- 6 for an RTT, window or horizon of 2 ^ 62 or more; else the rule of `sample`
-unfoldable pub sampleOf : Liveness → ℕ → ℕ → ℕ → ℕ → Doing
+unfoldable pub sampleOf : Liveness → ℕ → ℕ → ℕ → ℕ → Outcome
 sampleOf p now x window horizon =
-    pick (leb (2 ^ 62) x)
-    (refusedDoing p Duration)
-    (pick (leb (2 ^ 62) window)
-    (refusedDoing p Duration)
-    (pick (leb (2 ^ 62) horizon)
-    (refusedDoing p Duration)
-    (doneWith (withRtts p (rtts.sampleOf (p .rtts) now x window horizon)))))
+    cond (isEndless x)
+    (refused p Duration)
+    (cond (isEndless window)
+    (refused p Duration)
+    (cond (isEndless horizon)
+    (refused p Duration)
+    (done (withRtts p (rtts.sampledRtts (p .rtts) now x window horizon)))))
 
 -- `fold`: the Rust's float steps on the path's ETX
 abbrev pub foldedOf : Liveness → Bool → Liveness
 foldedOf p delivered = withEtx p (foldOf (p .etx) delivered)
 
 -- 6 for a floor or cap of 2 ^ 62 or more; else the largest of floor, 3 × last, and the smaller of 3 × largest and cap
-unfoldable pub timeoutOf : Liveness → ℕ → ℕ → TimeAnswer
+unfoldable pub timeoutOf : Liveness → ℕ → ℕ → Answer
 timeoutOf p floor cap =
-    pick (leb (2 ^ 62) floor)
-    (answers.Refused Duration)
-    (pick (leb (2 ^ 62) cap)
-    (answers.Refused Duration)
-    (answers.Time (times.timeoutOf (p .rtts .rtt) (maxRtt (p .rtts .rtts)) floor cap)))
+    cond (isEndless floor)
+    (Refused Duration)
+    (cond (isEndless cap)
+    (Refused Duration)
+    (Time (times.timeoutBy (p .rtts .rtt) (maxRtt (p .rtts .samples)) floor cap)))
 
 -- `heard`: one frame more, heard now
 abbrev pub heardTraffic : Traffic → ℕ → ℕ → Traffic
@@ -63,8 +53,8 @@ heardTraffic t n now =
     }
 
 -- 5 for a length above 65,535; else the frame is counted
-unfoldable pub heardOf : Liveness → ℕ → ℕ → Doing
-heardOf p n now = pick (ltb 65535 n) (refusedDoing p Length) (doneWith (withTraffic p (heardTraffic (p .traffic) n now)))
+unfoldable pub heardOf : Liveness → ℕ → ℕ → Outcome
+heardOf p n now = cond (isOverlong n) (refused p Length) (done (withTraffic p (heardTraffic (p .traffic) n now)))
 
 -- `carried`: a session datagram arrived now
 abbrev pub carriedOf : Liveness → ℕ → Liveness
@@ -92,8 +82,8 @@ shedTraffic t n =
     }
 
 -- 5 for a length above 65,535; else the frame is taken back
-unfoldable pub shedOf : Liveness → ℕ → Doing
-shedOf p n = pick (ltb 65535 n) (refusedDoing p Length) (doneWith (withTraffic p (shedTraffic (p .traffic) n)))
+unfoldable pub shedOf : Liveness → ℕ → Outcome
+shedOf p n = cond (isOverlong n) (refused p Length) (done (withTraffic p (shedTraffic (p .traffic) n)))
 
 -- `halt`, `spend`, `owe` and `rebase` change the silence and nothing else
 abbrev pub haltedOf : Liveness → ℕ → Bool → Liveness

@@ -26,8 +26,8 @@ impl Liveness {
             since: id,
         };
         let free = ring::ring::none();
-        let places = [free; 8];
-        let late = [free; 4];
+        let places = [free; RING];
+        let late = [free; LATE];
         let rtts = Rtts::new();
         let silence = Silence::new();
         let seek = Seek::new();
@@ -73,7 +73,7 @@ impl Liveness {
     {
         let ring = self.ring;
         let n = ring::ring::outstanding(ring) as u64;
-        (n < cap) & (n < 8)
+        (n < cap) & (n < RING as u64)
     }
 
     // The earliest instant at which a waiting probe is due.
@@ -102,19 +102,19 @@ impl Liveness {
 
     // The least round trip among the window's samples.
     pub fn min_rtt(self) -> MaybeTime
-        ensures { λ r. ⌜ r ≡ minRtt (self .rtts .rtts) ⌝ }
+        ensures { λ r. ⌜ r ≡ minRtt (self .rtts .samples) ⌝ }
     {
         let rtts = self.rtts;
-        let samples = rtts.rtts;
+        let samples = rtts.samples;
         rtt::window::min_rtt(samples)
     }
 
     // The largest round trip among the window's samples.
     pub fn max_rtt(self) -> MaybeTime
-        ensures { λ r. ⌜ r ≡ maxRtt (self .rtts .rtts) ⌝ }
+        ensures { λ r. ⌜ r ≡ maxRtt (self .rtts .samples) ⌝ }
     {
         let rtts = self.rtts;
-        let samples = rtts.rtts;
+        let samples = rtts.samples;
         rtt::window::max_rtt(samples)
     }
 
@@ -129,10 +129,10 @@ impl Liveness {
 
     // Round-trip samples in the window.
     pub fn samples(self) -> usize
-        ensures { λ r. ⌜ r ≡ samplesOf (self .rtts .rtts) ⌝ }
+        ensures { λ r. ⌜ r ≡ samplesOf (self .rtts .samples) ⌝ }
     {
         let rtts = self.rtts;
-        let samples = rtts.rtts;
+        let samples = rtts.samples;
         rtt::window::samples(samples)
     }
 

@@ -1,45 +1,13 @@
 // Probes sent, answered and lapsed.
 ghost use mathlib.Core.Path.{_≡_};
-ghost use Rattle.live.specs.Probe.{noId, takeIdOf, sendOf, lapseAnswer, answerOf, expireOf, lapseOf, clearOf, thawOf, isMatching};
+ghost use Rattle.live.specs.Probe.{takeIdOf, sendOf, answerOf, expireOf, lapseOf, clearOf, thawOf};
+use crate::answers::refused;
 use crate::types::*;
+use base::limits::DURATION_END;
+use base::limits::MAX_LEN;
 use base::types::*;
 use ring::types::*;
 use seek::types::*;
-
-impl Answer {
-    // Whether the answer is a matching one: an answer in time is, a late one is not.
-    pub fn matching(self) -> bool
-        ensures { λ r. ⌜ r ≡ isMatching self ⌝ }
-    {
-        match self {
-            Answer::InTime(s) => true,
-            Answer::Late(s) => false,
-            Answer::Refused(why) => false,
-        }
-    }
-}
-
-// A refused send: the path as it came.
-pub fn no_id(path: Liveness, why: Refusal) -> Sending
-    ensures { λ r. ⌜ r ≡ noId path why ⌝ }
-{
-    let answer = IdAnswer::Refused(why);
-    Sending {
-        path: path,
-        answer: answer,
-    }
-}
-
-// The answer for a probe that lapsed.
-fn lapse_answer(miss: bool) -> Expired
-    ensures { λ r. ⌜ r ≡ lapseAnswer miss ⌝ }
-{
-    if miss {
-        Expired::Counted
-    } else {
-        Expired::NotCounted
-    }
-}
 
 impl Liveness {
     // Takes the path's next identifier; the draw is its first.
@@ -56,18 +24,18 @@ impl Liveness {
     }
 
     // A probe of len bytes sent at `at`, due at `due`: into the first free place of the ring.
-    pub fn send(self, at: u64, due: u64, len: u32, draw: u32) -> Sending
+    pub fn send(self, at: u64, due: u64, len: u32, draw: u32) -> Outcome
         ensures { λ r. ⌜ r ≡ sendOf self at due len draw ⌝ }
     {
-        if 65535 < len {
+        if MAX_LEN < len {
             let why = Refusal::Length;
-            return no_id(self, why);
+            return refused(self, why);
         }
         let ring = self.ring;
         let slot = ring::ring::first_free(ring);
-        if 8 <= slot {
+        if RING <= slot {
             let why = Refusal::Full;
-            return no_id(self, why);
+            return refused(self, why);
         }
         let short = len as u16;
         let kept = ring::ids::drop_since(self.ids, ring);
@@ -91,20 +59,20 @@ impl Liveness {
         out.ids = ids;
         out.silence = silence;
         out.ladder = ladder;
-        let answer = IdAnswer::Id(id);
-        Sending {
+        let answer = Answer::Id(id);
+        Outcome {
             path: out,
             answer: answer,
         }
     }
 
     // Takes the probe id out of the ring, or else out of the late list.
-    pub fn answer(self, id: u32) -> Answering
+    pub fn answer(self, id: u32) -> Outcome
         ensures { λ r. ⌜ r ≡ answerOf self id ⌝ }
     {
         let ring = self.ring;
         let slot = ring::ring::find(ring, id);
-        if slot < 8 {
+        if slot < RING {
             let sent = ring[slot];
             let closed = ring::ring::take_out(ring, slot);
             let ids = ring::ids::answered_ids(self.ids, id);
@@ -113,41 +81,35 @@ impl Liveness {
             out.ids = ids;
             out.misses = 0;
             let in_time = Answer::InTime(sent);
-            return Answering {
+            return Outcome {
                 path: out,
                 answer: in_time,
             };
         }
         let late = self.late;
         let place = ring::ring::find_late(late, id);
-        if place < 4 {
+        if place < LATE {
             let sent = late[place];
             let free = ring::ring::none();
             let mut out = self;
             out.late[place] = free;
             let too_late = Answer::Late(sent);
-            return Answering {
+            return Outcome {
                 path: out,
                 answer: too_late,
             };
         }
-        let unknown = Answer::Refused(Refusal::Unknown);
-        Answering {
-            path: self,
-            answer: unknown,
-        }
+        let why = Refusal::Unknown;
+        refused(self, why)
     }
 
     // Takes the probe that lapses out of the ring into the late list, deferring others on the way to it.
-    pub fn expire(self, now: u64, overdue: bool, cap: u64) -> Expiring
+    pub fn expire(self, now: u64, overdue: bool, cap: u64) -> Outcome
         ensures { λ r. ⌜ r ≡ expireOf self now overdue cap ⌝ }
     {
-        if 0x4000_0000_0000_0000 <= cap {
-            let refused = Expired::Refused(Refusal::Duration);
-            return Expiring {
-                path: self,
-                answer: refused,
-            };
+        if DURATION_END <= cap {
+            let why = Refusal::Duration;
+            return refused(self, why);
         }
         let ring = self.ring;
         let traffic = self.traffic;
@@ -156,12 +118,12 @@ impl Liveness {
         let left = scanned.ring;
         let slot = scanned.slot;
         let mut out = self;
-        if slot >= 8 {
+        if slot >= RING {
             out.ring = left;
-            let none = Expired::None;
-            return Expiring {
+            let idle = Answer::Idle;
+            return Outcome {
                 path: out,
-                answer: none,
+                answer: idle,
             };
         }
         let sent = left[slot];
@@ -176,8 +138,8 @@ impl Liveness {
         out.late = later;
         out.ladder.fallen = fallen;
         out.misses = misses;
-        let answer = lapse_answer(miss);
-        Expiring {
+        let answer = Answer::Lapsed(miss);
+        Outcome {
             path: out,
             answer: answer,
         }
@@ -202,7 +164,7 @@ impl Liveness {
         let late = self.late;
         let later = ring::ring::sweep(late, ring);
         let free = ring::ring::none();
-        let empty = [free; 8];
+        let empty = [free; RING];
         let mut out = self;
         out.ring = empty;
         out.late = later;

@@ -1,41 +1,33 @@
 // Round trips, ETX, frames received, and the stop of a path.
 ghost use mathlib.Core.Path.{_≡_};
-ghost use Rattle.stop.specs.Silence.{stoppedOf, heldOf, recheckOf};
-ghost use Rattle.live.specs.Times.{refusedDoing, sampleOf, foldedOf, timeoutOf, heardOf, carriedOf, shedOf, haltedOf, spentOf, owedOf, rebasedOf};
+ghost use Rattle.stop.specs.Silence.{stoppedOf, heldUntil, recheckOf};
+ghost use Rattle.live.specs.Times.{sampleOf, foldedOf, timeoutOf, heardOf, carriedOf, shedOf, haltedOf, spentOf, owedOf, rebasedOf};
+use crate::answers::refused;
 use crate::types::*;
+use base::limits::DURATION_END;
+use base::limits::MAX_LEN;
 use base::types::*;
-
-// A refused call that has nothing else to say: the path as it came.
-fn not_done(path: Liveness, why: Refusal) -> Doing
-    ensures { λ r. ⌜ r ≡ refusedDoing path why ⌝ }
-{
-    let answer = Done::Refused(why);
-    Doing {
-        path: path,
-        answer: answer,
-    }
-}
 
 impl Liveness {
     // Records a round trip measured at `now`.
-    pub fn sample(self, now: u64, rtt: u64, window: u64, horizon: u64) -> Doing
+    pub fn sample(self, now: u64, rtt: u64, window: u64, horizon: u64) -> Outcome
         ensures { λ r. ⌜ r ≡ sampleOf self now rtt window horizon ⌝ }
     {
         let why = Refusal::Duration;
-        if 0x4000_0000_0000_0000 <= rtt {
-            return not_done(self, why);
+        if DURATION_END <= rtt {
+            return refused(self, why);
         }
-        if 0x4000_0000_0000_0000 <= window {
-            return not_done(self, why);
+        if DURATION_END <= window {
+            return refused(self, why);
         }
-        if 0x4000_0000_0000_0000 <= horizon {
-            return not_done(self, why);
+        if DURATION_END <= horizon {
+            return refused(self, why);
         }
         let rtts = rtt::rtts::sample(self.rtts, now, rtt, window, horizon);
         let mut out = self;
         out.rtts = rtts;
-        let answer = Done::Done;
-        Doing {
+        let answer = Answer::Done;
+        Outcome {
             path: out,
             answer: answer,
         }
@@ -52,29 +44,29 @@ impl Liveness {
     }
 
     // How long a probe waits for its answer.
-    pub fn timeout(self, floor: u64, cap: u64) -> TimeAnswer
+    pub fn timeout(self, floor: u64, cap: u64) -> Answer
         ensures { λ r. ⌜ r ≡ timeoutOf self floor cap ⌝ }
     {
-        if 0x4000_0000_0000_0000 <= floor {
-            return TimeAnswer::Refused(Refusal::Duration);
+        if DURATION_END <= floor {
+            return Answer::Refused(Refusal::Duration);
         }
-        if 0x4000_0000_0000_0000 <= cap {
-            return TimeAnswer::Refused(Refusal::Duration);
+        if DURATION_END <= cap {
+            return Answer::Refused(Refusal::Duration);
         }
         let rtts = self.rtts;
-        let samples = rtts.rtts;
+        let samples = rtts.samples;
         let last = rtts.rtt;
         let largest = rtt::window::max_rtt(samples);
-        TimeAnswer::Time(rtt::times::timeout(last, largest, floor, cap))
+        Answer::Time(rtt::times::timeout(last, largest, floor, cap))
     }
 
     // Counts one authentic frame of len bytes received at `now`, modulo 2^32.
-    pub fn heard(self, len: u32, now: u64) -> Doing
+    pub fn heard(self, len: u32, now: u64) -> Outcome
         ensures { λ r. ⌜ r ≡ heardOf self len now ⌝ }
     {
-        if 65535 < len {
+        if MAX_LEN < len {
             let why = Refusal::Length;
-            return not_done(self, why);
+            return refused(self, why);
         }
         let old = self.traffic;
         let data_at = old.data_at;
@@ -86,8 +78,8 @@ impl Liveness {
         };
         let mut out = self;
         out.traffic = traffic;
-        let answer = Done::Done;
-        Doing {
+        let answer = Answer::Done;
+        Outcome {
             path: out,
             answer: answer,
         }
@@ -111,12 +103,12 @@ impl Liveness {
     }
 
     // Takes one frame of len bytes back from the counts, modulo 2^32.
-    pub fn shed(self, len: u32) -> Doing
+    pub fn shed(self, len: u32) -> Outcome
         ensures { λ r. ⌜ r ≡ shedOf self len ⌝ }
     {
-        if 65535 < len {
+        if MAX_LEN < len {
             let why = Refusal::Length;
-            return not_done(self, why);
+            return refused(self, why);
         }
         let old = self.traffic;
         let heard_at = old.heard_at;
@@ -129,8 +121,8 @@ impl Liveness {
         };
         let mut out = self;
         out.traffic = traffic;
-        let answer = Done::Done;
-        Doing {
+        let answer = Answer::Done;
+        Outcome {
             path: out,
             answer: answer,
         }
@@ -185,7 +177,7 @@ impl Liveness {
 
     // While stopped, the instant from which the next probe on the path's own cadence may go.
     pub fn held(self) -> MaybeTime
-        ensures { λ r. ⌜ r ≡ heldOf (self .silence) ⌝ }
+        ensures { λ r. ⌜ r ≡ heldUntil (self .silence) ⌝ }
     {
         stop::silence::held(self.silence)
     }

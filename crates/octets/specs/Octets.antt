@@ -1,10 +1,9 @@
 -- Numbers as little-endian bytes (document 01, "Files and tail": "little-endian"), and what a writer leaves of lent bytes.
 use mathlib.Core.List.{List, [], _∷_, _++_}
-use mathlib.Core.Bool.{Bool, _&&_}
+use mathlib.Core.Bool.{Bool, cond, _&&_}
 use Prim.Native.Nat.{ℕ, zero, suc, _+_, _*_, _/_, _%_}
 use lib.Dec.{leb}
 use lib.ListN.{length, take, drop}
-use Rattle.base.specs.Seq.{pick}
 
 -- the lowest w bytes of x, the lowest first
 unfoldable pub le : ℕ → ℕ → List ℕ
@@ -22,7 +21,7 @@ wordsOf xs = flat (le 8) xs
 
 -- bytes over the front of lent ones, which stay as they are where the bytes do not fit; those past them stay
 unfoldable pub over : List ℕ → List ℕ → List ℕ
-over bytes l = pick (leb (length bytes) (length l)) (bytes ++ drop (length bytes) l) l
+over bytes l = cond (leb (length bytes) (length l)) (bytes ++ drop (length bytes) l) l
 
 -- the number whose bytes these are, the lowest first
 unfoldable pub numberOf : List ℕ → ℕ
@@ -31,4 +30,4 @@ numberOf (b ∷ bs) = b + 256 * numberOf bs
 
 -- the number in the w bytes from `at` on; 0 where these are not there or are more than eight
 unfoldable pub readAt : ℕ → ℕ → List ℕ → ℕ
-readAt at w l = pick (leb w 8 && leb (at + w) (length l)) (numberOf (take w (drop at l))) 0
+readAt at w l = cond (leb w 8 && leb (at + w) (length l)) (numberOf (take w (drop at l))) 0

@@ -1,3 +1,4 @@
 -- Laws that the proofs of several functions cite.
-mod LapseLaws
+pub mod LapseLaws
 mod SweepLaws
+pub mod ClosedLaws

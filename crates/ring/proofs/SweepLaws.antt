@@ -6,8 +6,8 @@ use mathlib.Core.List.{List, [], _∷_, _++_, append-nil, append-assoc}
 use mathlib.Core.Bool.{Bool, true, false}
 use native.Mathlib.Numerals.{add-one}
 use native.Mathlib.Omega.{arith}
-use lib.ListN.{length, getD, take, drop, length-append, length-drop}
-use lib.Seq.{take-suc, take-all, drop-append-le, drop-drop}
+use lib.ListN.{length, getD, take, drop, drop-of-length-le, length-append, length-drop}
+use lib.Seq.{drop-cons, take-suc, take-all, drop-append-le, drop-drop}
 use Rattle.base.specs.Seq.{keep}
 use Rattle.base.proofs.SeqLaws.{keep-append}
 use Rattle.ring.specs.declared.types.Sent.{Sent}
@@ -57,3 +57,10 @@ module _ {late : List Sent} {m : ℕ} {ring : List Sent} {n : ℕ} where
 
   pub sweeping-end : {out : List Sent} {i : ℕ} → Sweeping late m ring n out i → n ≤ i → out ≡ swept late ring
   sweeping-end {out} {i} s h = let q : take i ring ≡ ring = take-all i ring (omega arith) in rw q at (s .done)
+
+-- the late list's four places, shifted one to the front with one more at the end
+pub shifted : {A : Type 0} (l : List A) (d x : A) → length l ≡ 4 → getD l 1 d ∷ getD l 2 d ∷ getD l 3 d ∷ x ∷ [] ≡ drop 1 l ++ (x ∷ [])
+shifted l d x h =
+    let k : length l ≤ 4 = omega arith in
+    let e : drop 4 l ≡ [] = drop-of-length-le l k in
+    simp (drop-cons l 1 d (omega arith), drop-cons l 2 d (omega arith), drop-cons l 3 d (omega arith), e)

@@ -1,7 +1,6 @@
 -- Identifiers (document 01, "Identifiers", and the marks since, answered and epoch of "Ring (8) and late list (4)").
 use Prim.Native.Nat.{ℕ, _+_, _%_, _^_, min}
-use mathlib.Core.Bool.{Bool, true, not, _&&_}
-use Rattle.base.specs.Seq.{pick}
+use mathlib.Core.Bool.{Bool, true, not, cond, _&&_}
 use Rattle.base.specs.Serial.{afterOf}
 use Rattle.base.specs.declared.types.MaybeId.{MaybeId}
 use Rattle.base.specs.declared.types.MaybeId.the-variants.{None, Some}
@@ -13,12 +12,12 @@ takenOf None draw = draw
 takenOf (Some id) draw = id
 
 -- each later one adds 1 modulo 2 ^ 32
-abbrev pub nextOf : ℕ → MaybeId
-nextOf id = Some ((id + 1) % 2 ^ 32)
+abbrev pub nextId : ℕ → MaybeId
+nextId id = Some ((id + 1) % 2 ^ 32)
 
 -- the identifiers once a probe has taken id
 abbrev pub nextIds : Ids → ℕ → Ids
-nextIds m id = record { «next_id» = nextOf id; answered = m .answered; epoch = m .epoch; since = m .since }
+nextIds m id = record { «next_id» = nextId id; answered = m .answered; epoch = m .epoch; since = m .since }
 
 -- an identifier counts unless since is after it; answered and epoch are asked in the same way
 abbrev pub countsOf : MaybeId → ℕ → Bool
@@ -28,7 +27,7 @@ countsOf (Some s) id = not (afterOf 32 s id)
 -- `answered` moves only from none or to a later identifier
 abbrev pub newer : MaybeId → ℕ → ℕ
 newer None id = id
-newer (Some a) id = pick (afterOf 32 id a) id a
+newer (Some a) id = cond (afterOf 32 id a) id a
 
 -- the identifiers after an answer in time
 abbrev pub answeredIds : Ids → ℕ → Ids
@@ -49,4 +48,4 @@ isCounted m id = countsOf (m .since) id && countsOf (m .answered) id
 
 -- misses stop at 2 ^ 32 - 1
 abbrev pub missedBy : ℕ → Bool → ℕ
-missedBy misses miss = pick miss (min (misses + 1) 0xffff_ffff) misses
+missedBy misses miss = cond miss (min (misses + 1) 0xffff_ffff) misses

@@ -1,9 +1,9 @@
 -- Which probe lapses, and which are deferred on the way to it (document 01, "Ring (8) and late list (4)", `expire` and `fallen`).
 use Prim.Native.Nat.{ℕ, suc}
 use mathlib.Core.List.{List, [], _∷_}
-use mathlib.Core.Bool.{Bool, true, false, _&&_}
+use mathlib.Core.Bool.{Bool, true, false, cond, _&&_}
 use lib.Dec.{leb, ltb}
-use Rattle.base.specs.Seq.{pick}
+use Rattle.base.specs.Limits.{minLen}
 use Rattle.base.specs.Time.{deadlineOf}
 use Rattle.ring.specs.Ids.{countsOf}
 use Rattle.ring.specs.declared.types.Sent.{Sent}
@@ -14,18 +14,18 @@ use Rattle.ring.specs.declared.lapse.Scanned.{Scanned}
 
 -- due < now, or due = now unless overdue
 abbrev pub passedAt : ℕ → Bool → ℕ → Bool
-passedAt now overdue due = pick overdue (ltb due now) (leb due now)
+passedAt now overdue due = cond overdue (ltb due now) (leb due now)
 
 -- a waiting probe whose due has passed
 abbrev pub isPassed : ℕ → Bool → Sent → Bool
-isPassed now overdue s = pick (s .used) (passedAt now overdue (s .due)) false
+isPassed now overdue s = cond (s .used) (passedAt now overdue (s .due)) false
 
 -- if the last data instant is above its sent one, and its cap deadline, deadline(sent, cap), hasn't passed, its due becomes that
 abbrev pub deferOf : MaybeTime → ℕ → ℕ → Bool → Sent → MaybeTime
 deferOf None cap now overdue s = None
 deferOf (Some t) cap now overdue s =
-    pick (ltb (s .at) t)
-    (pick (passedAt now overdue (deadlineOf 64 (s .at) cap)) None (Some (deadlineOf 64 (s .at) cap)))
+    cond (ltb (s .at) t)
+    (cond (passedAt now overdue (deadlineOf 64 (s .at) cap)) None (Some (deadlineOf 64 (s .at) cap)))
     None
 
 -- the probe with another due
@@ -45,8 +45,8 @@ lapseOr (Some u) s ss r = behind (withDue s u) r
 -- more, so that a scan that starts over comes to the entry behind it.
 abbrev pub scanOf : (Sent → Bool) → (Sent → MaybeTime) → List Sent → Scanned
 scanOf p defer [] = record { ring = []; slot = 0 }
-scanOf p defer (s ∷ ss) = pick (p s) (lapseOr (defer s) s ss (scanOf p defer ss)) (behind s (scanOf p defer ss))
+scanOf p defer (s ∷ ss) = cond (p s) (lapseOr (defer s) s ss (scanOf p defer ss)) (behind s (scanOf p defer ss))
 
 -- `fallen` is set by a lapse above 27 bytes whose identifier the epoch is not after
 abbrev pub isPadded : Ids → Sent → Bool
-isPadded m s = ltb 27 (s .len) && countsOf (m .epoch) (s .«probe_id»)
+isPadded m s = ltb minLen (s .len) && countsOf (m .epoch) (s .«probe_id»)

@@ -4,6 +4,7 @@ ghost use Rattle.ring.specs.Ids.{takenOf, nextIds, countsOf, newer, answ
 ghost use Rattle.ring.specs.Ring.{dropSince};
 ghost use Rattle.ring.specs.Lapse.{isPadded};
 use crate::types::*;
+use base::limits::PATH_PROBE_MIN_SIZE;
 use base::types::MaybeId;
 
 // The identifier that the next probe takes: the draw is used for the first only.
@@ -33,7 +34,7 @@ pub fn next_ids(ids: Ids, id: u32) -> Ids
 }
 
 // The identifiers before a send: since is dropped if every waiting probe counts.
-pub fn drop_since(ids: Ids, ring: [Sent; 8]) -> Ids
+pub fn drop_since(ids: Ids, ring: [Sent; RING]) -> Ids
     ensures { λ r. ⌜ r ≡ dropSince ids ring ⌝ }
 {
     let since = ids.since;
@@ -134,7 +135,7 @@ pub fn padded(ids: Ids, s: Sent) -> bool
     ensures { λ r. ⌜ r ≡ isPadded ids s ⌝ }
 {
     let epoch = ids.epoch;
-    (27 < s.len) & counts(epoch, s.probe_id)
+    (PATH_PROBE_MIN_SIZE < s.len) & counts(epoch, s.probe_id)
 }
 
 // The misses with one more, or as they are; they stop at 2^32 - 1.

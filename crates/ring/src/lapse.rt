@@ -2,6 +2,7 @@
 ghost use mathlib.Core.Path.{_≡_};
 ghost use Rattle.base.specs.Seq.{position};
 ghost use Rattle.ring.specs.Lapse.{passedAt, isPassed, deferOf, scanOf};
+use crate::types::RING;
 use crate::types::Sent;
 use base::types::*;
 
@@ -24,11 +25,11 @@ fn is_passed(s: Sent, now: u64, overdue: bool) -> bool
 }
 
 // The place of the first probe whose due has passed, or 8.
-fn first_passed(ring: [Sent; 8], now: u64, overdue: bool) -> usize
+fn first_passed(ring: [Sent; RING], now: u64, overdue: bool) -> usize
     ensures { λ r. ⌜ r ≡ position (isPassed now overdue) ring ⌝ }
 {
     let mut i: usize = 0;
-    while i < 8 {
+    while i < RING {
         let s = ring[i];
         if is_passed(s, now, overdue) {
             return i;
@@ -61,18 +62,18 @@ fn defer(s: Sent, data_at: MaybeTime, cap: u64, now: u64, overdue: bool) -> Mayb
 
 // A ring and a place of it, 8 for none.
 pub struct Scanned {
-    pub ring: [Sent; 8],
+    pub ring: [Sent; RING],
     pub slot: usize,
 }
 
 // Defers probes, and gives the place of the one that lapses.
-pub fn scan(ring: [Sent; 8], data_at: MaybeTime, cap: u64, now: u64, overdue: bool) -> Scanned
+pub fn scan(ring: [Sent; RING], data_at: MaybeTime, cap: u64, now: u64, overdue: bool) -> Scanned
     ensures { λ r. ⌜ r ≡ scanOf (isPassed now overdue) (deferOf data_at cap now overdue) ring ⌝ }
 {
     let mut left = ring;
     let slot = loop {
         let i = first_passed(left, now, overdue);
-        if i >= 8 {
+        if i >= RING {
             break i;
         }
         let s = left[i];

@@ -1,16 +1,18 @@
 // The places of the ring and of the late list.
 ghost use mathlib.Core.Path.{_≡_};
-ghost use Rattle.ring.specs.Ring.{firstFree, fineOf, allCount, noSent, isProbe, found, packed, takenOut, remembered, swept, outstandingOf, earliestDue};
+ghost use Rattle.ring.specs.Ring.{maxWaiting, firstFree, fineOf, allCount, noSent, isProbe, found, packed, takenOut, remembered, swept, outstandingOf, earliestDue};
+use crate::types::LATE;
+use crate::types::RING;
 use crate::types::Sent;
 use base::types::MaybeId;
 use base::types::MaybeTime;
 
 // The place of the first entry that is free, or 8.
-pub fn first_free(ring: [Sent; 8]) -> usize
+pub fn first_free(ring: [Sent; RING]) -> usize
     ensures { λ r. ⌜ r ≡ firstFree ring ⌝ }
 {
     let mut i: usize = 0;
-    while i < 8 {
+    while i < RING {
         let s = ring[i];
         if !s.used {
             return i;
@@ -32,11 +34,11 @@ fn fine(s: Sent, since: MaybeId) -> bool
 }
 
 // Whether every waiting probe counts.
-pub fn all_count(ring: [Sent; 8], since: MaybeId) -> bool
+pub fn all_count(ring: [Sent; RING], since: MaybeId) -> bool
     ensures { λ r. ⌜ r ≡ allCount since ring ⌝ }
 {
     let mut i: usize = 0;
-    while i < 8 {
+    while i < RING {
         let s = ring[i];
         if !fine(s, since) {
             return false;
@@ -67,11 +69,11 @@ fn is_probe(s: Sent, id: u32) -> bool
 }
 
 // The place of the first waiting probe with the identifier, or 8.
-pub fn find(ring: [Sent; 8], id: u32) -> usize
+pub fn find(ring: [Sent; RING], id: u32) -> usize
     ensures { λ r. ⌜ r ≡ found id ring ⌝ }
 {
     let mut i: usize = 0;
-    while i < 8 {
+    while i < RING {
         let s = ring[i];
         if is_probe(s, id) {
             return i;
@@ -82,14 +84,14 @@ pub fn find(ring: [Sent; 8], id: u32) -> usize
 }
 
 // The waiting probes at the front, in their order.
-pub fn compact(ring: [Sent; 8]) -> [Sent; 8]
-    ensures { λ r. ⌜ r ≡ packed 8 ring ⌝ }
+pub fn compact(ring: [Sent; RING]) -> [Sent; RING]
+    ensures { λ r. ⌜ r ≡ packed maxWaiting ring ⌝ }
 {
     let free = none();
-    let mut out = [free; 8];
+    let mut out = [free; RING];
     let mut w: usize = 0;
     let mut r: usize = 0;
-    while r < 8 {
+    while r < RING {
         let s = ring[r];
         r += 1;
         if s.used {
@@ -101,12 +103,12 @@ pub fn compact(ring: [Sent; 8]) -> [Sent; 8]
 }
 
 // The ring without the probe at a place, closed up in its order.
-pub fn take_out(ring: [Sent; 8], slot: usize) -> [Sent; 8]
-    ensures { λ r. ⌜ r ≡ takenOut 8 ring slot ⌝ }
+pub fn take_out(ring: [Sent; RING], slot: usize) -> [Sent; RING]
+    ensures { λ r. ⌜ r ≡ takenOut maxWaiting ring slot ⌝ }
 {
     let free = none();
     let mut open = ring;
-    if slot < 8 {
+    if slot < RING {
         open[slot] = free;
         return compact(open);
     }
@@ -114,11 +116,11 @@ pub fn take_out(ring: [Sent; 8], slot: usize) -> [Sent; 8]
 }
 
 // The place of the first late probe with the identifier, or 4.
-pub fn find_late(late: [Sent; 4], id: u32) -> usize
+pub fn find_late(late: [Sent; LATE], id: u32) -> usize
     ensures { λ r. ⌜ r ≡ found id late ⌝ }
 {
     let mut i: usize = 0;
-    while i < 4 {
+    while i < LATE {
         let s = late[i];
         if is_probe(s, id) {
             return i;
@@ -129,19 +131,19 @@ pub fn find_late(late: [Sent; 4], id: u32) -> usize
 }
 
 // The late list with one more at its end: everything shifts one place.
-pub fn remember(late: [Sent; 4], s: Sent) -> [Sent; 4]
+pub fn remember(late: [Sent; LATE], s: Sent) -> [Sent; LATE]
     ensures { λ r. ⌜ r ≡ remembered late s ⌝ }
 {
     [late[1], late[2], late[3], s]
 }
 
 // The late list after a sweep: the waiting probes enter it in ring order.
-pub fn sweep(late: [Sent; 4], ring: [Sent; 8]) -> [Sent; 4]
+pub fn sweep(late: [Sent; LATE], ring: [Sent; RING]) -> [Sent; LATE]
     ensures { λ r. ⌜ r ≡ swept late ring ⌝ }
 {
     let mut out = late;
     let mut i: usize = 0;
-    while i < 8 {
+    while i < RING {
         let s = ring[i];
         i += 1;
         if s.used {
@@ -153,12 +155,12 @@ pub fn sweep(late: [Sent; 4], ring: [Sent; 8]) -> [Sent; 4]
 }
 
 // How many probes wait.
-pub fn outstanding(ring: [Sent; 8]) -> usize
+pub fn outstanding(ring: [Sent; RING]) -> usize
     ensures { λ r. ⌜ r ≡ outstandingOf ring ⌝ }
 {
     let mut n: usize = 0;
     let mut i: usize = 0;
-    while i < 8 {
+    while i < RING {
         let s = ring[i];
         i += 1;
         if s.used {
@@ -169,12 +171,12 @@ pub fn outstanding(ring: [Sent; 8]) -> usize
 }
 
 // The earliest due instant of the waiting probes.
-pub fn earliest_due(ring: [Sent; 8]) -> MaybeTime
+pub fn earliest_due(ring: [Sent; RING]) -> MaybeTime
     ensures { λ r. ⌜ r ≡ earliestDue ring ⌝ }
 {
     let mut least = MaybeTime::None;
     let mut i: usize = 0;
-    while i < 8 {
+    while i < RING {
         let s = ring[i];
         i += 1;
         if s.used {

@@ -1,6 +1,12 @@
 // What the ring and the late list hold, and the identifiers of a path.
 use base::types::MaybeId;
 
+// The places of the ring: probes that wait at once.
+pub const RING: usize = 8;
+
+// The places of the late list: lapsed probes whose answers are still known.
+pub const LATE: usize = 4;
+
 // One probe sent on a path, as the Rust's `Sent`; a free place has `used` clear and all else 0.
 pub struct Sent {
     pub at: u64,

@@ -1,9 +1,9 @@
 -- What `sample` does to the three round trips of a path: none is there before the first sample; after a sample of x the last is x, and
 -- the least of the window and the least over the horizon are there and at most x. For a later reader of a path's standing.
 -- Assumes nothing.
-use Prim.Native.Nat.{ℕ, suc, _<_, _≤_, min}
+use Prim.Native.Nat.{ℕ, suc, _<_, _≤_}
 use mathlib.Core.Path.{_≡_, refl}
-use mathlib.Core.List.{List, [], _∷_, _++_, map, foldl, foldl-append}
+use mathlib.Core.List.{List, [], _∷_, _++_, map}
 use mathlib.Core.Bool.{Bool, true}
 use native.Mathlib.Omega.{arith}
 use lib.ListN.{length, getD, set, take, drop, length-map, length-set}
@@ -12,12 +12,14 @@ use Rattle.base.specs.declared.types.MaybeTime.{MaybeTime}
 use Rattle.base.specs.declared.types.MaybeTime.the-variants.{None, Some}
 use Rattle.base.proofs.Cases.{on-flag, on-order, never}
 use Rattle.base.proofs.ScanLaws.{map-append, keep-set}
-use Rattle.base.proofs.MarkedLaws.{by-least, place-there}
-use Rattle.base.specs.Least.{lowerOf, leastOf}
-use Rattle.rtt.specs.Samples.{noSample, isSample, noLater, keptSample, keptSamples, samplePlace, newSample, withSample, minRtt}
+use Rattle.base.proofs.FirstLaws.{by-least}
+use Rattle.base.proofs.LeastLaws.{In, least-there, least-bound}
+use Rattle.base.proofs.MarkedLaws.{place-there}
+use Rattle.base.specs.Least.{leastOf}
+use Rattle.rtt.specs.Samples.{noSample, isSample, sampleEarlier, keptSample, keptSamples, samplePlace, newSample, withSample, minRtt}
 use Rattle.rtt.specs.Spans as spans
 use Rattle.rtt.specs.Spans.{noSpan, isSpan, keptSpan, keptSpans, newestSpan, spanPlace, joinsOf, joinedOf, newSpan, spanOf, baseRtt}
-use Rattle.rtt.specs.Rtts.{newRtts, sampleOf}
+use Rattle.rtt.specs.Rtts.{newRtts, sampledRtts}
 use Rattle.rtt.specs.declared.types.Sample.{Sample}
 use Rattle.rtt.specs.declared.types.Span.{Span}
 use Rattle.rtt.specs.declared.types.Rtts.{Rtts}
@@ -29,20 +31,15 @@ pub record Under (x : ℕ) (m : MaybeTime) : Type 0 where
   pub is : m ≡ Some least
   pub low : least ≤ x
 
-lower-here : (m : MaybeTime) (x y : ℕ) → y ≤ x → Under x (lowerOf m y)
-lower-here None x y h = record { least = y; is = refl; low = h }
-lower-here (Some a) x y h = record { least = min a y; is = refl; low = omega arith }
-
-lower-more : (m : MaybeTime) (x y : ℕ) → Under x m → Under x (lowerOf m y)
-lower-more m x y u = rw (u .is) (record { least = min (u .least) y; is = refl; low = omega arith })
-
-fold-under : (l : List ℕ) (m : MaybeTime) (x : ℕ) → Under x m → Under x (foldl lowerOf m l)
-fold-under [] m x u = u
-fold-under (y ∷ l) m x u = fold-under l (lowerOf m y) x (lower-more m x y u)
-
 -- the least of a list that has one of at most x
 least-under : (a b : List ℕ) (x y : ℕ) → y ≤ x → Under x (leastOf (a ++ (y ∷ b)))
-least-under a b x y h = rw foldl-append (fold-under b _ x (lower-here (leastOf a) x y h))
+least-under a b x y h = go (least-there (a ++ (y ∷ b)) y there)
+  where
+    there : In (a ++ (y ∷ b)) y
+    there = record { front = a; back = b; there = refl }
+
+    go : (m : ℕ) × (leastOf (a ++ (y ∷ b)) ≡ Some m) → Under x (leastOf (a ++ (y ∷ b)))
+    go (m, e) = record { least = m; is = e; low = omega (arith, least-bound (a ++ (y ∷ b)) m y e there) }
 
 -- the same, where the one was stored at a place
 module _ {A : Type 0} (held : A → Bool) (g : A → ℕ) where
@@ -57,7 +54,7 @@ unfolding minRtt withSample
 sample-least now x window l h =
     let k : length (keptSamples now window l) ≡ length l = length-map l (keptSample now window) in
     let p : samplePlace (keptSamples now window l) < length (keptSamples now window l) =
-    place-there isSample noLater (by-least (λ (s : Sample). s .at)) noSample refl (keptSamples now window l) (omega arith)
+    place-there isSample sampleEarlier (by-least (λ (s : Sample). s .at)) noSample refl (keptSamples now window l) (omega arith)
     in
     stored-under isSample (λ (s : Sample). s .rtt) (keptSamples now window l) (samplePlace (keptSamples now window l)) (newSample now x) x p refl (omega arith)
 
@@ -72,26 +69,26 @@ span-least now x horizon l h =
     (λ p. rw e (stored-under isSpan (λ (s : Span). s .rtt) m (newestSpan m) (joinedOf now x (getD m (newestSpan m) noSpan)) x p refl (omega arith)))
     (λ p. never e (joins-none now horizon m (newestSpan m) p)))
     (λ e.
-    let p : spanPlace m < length m = place-there isSpan spans.noLater (by-least (λ (s : Span). s .from)) noSpan refl m (omega arith) in
+    let p : spanPlace m < length m = place-there isSpan spans.spanEarlier (by-least (λ (s : Span). s .from)) noSpan refl m (omega arith) in
     rw e (stored-under isSpan (λ (s : Span). s .rtt) m (spanPlace m) (newSpan now x) x p refl (omega arith)))
 
 -- ---- the three together
 
 -- 32 places for samples and 8 for spans
 pub record Sized (r : Rtts) : Type 0 where
-  pub samples : length (r .rtts) ≡ 32
+  pub samples : length (r .samples) ≡ 32
   pub spans : length (r .spans) ≡ 8
 
 -- nothing is measured: none of the three is there
 pub record Unmeasured (r : Rtts) : Type 0 where
   pub last : r .rtt ≡ None
-  pub least : minRtt (r .rtts) ≡ None
+  pub least : minRtt (r .samples) ≡ None
   pub base : baseRtt (r .spans) ≡ None
 
 -- x was measured last: all three are there, and none is above x
 pub record Measured (r : Rtts) (x : ℕ) : Type 0 where
   pub last : r .rtt ≡ Some x
-  pub least : Under x (minRtt (r .rtts))
+  pub least : Under x (minRtt (r .samples))
   pub base : Under x (baseRtt (r .spans))
 
 pub new-sized : Sized newRtts
@@ -101,15 +98,15 @@ pub new-unmeasured : Unmeasured newRtts
 unfolding minRtt baseRtt
 new-unmeasured = record { last = refl; least = refl; base = refl }
 
-pub sample-measured : (r : Rtts) (now x window horizon : ℕ) → Sized r → Measured (sampleOf r now x window horizon) x
+pub sample-measured : (r : Rtts) (now x window horizon : ℕ) → Sized r → Measured (sampledRtts r now x window horizon) x
 sample-measured r now x window horizon s =
     record {
       last = refl;
-      least = sample-least now x window (r .rtts) (omega arith);
+      least = sample-least now x window (r .samples) (omega arith);
       base = span-least now x horizon (r .spans) (omega arith);
     }
 
-pub sample-sized : (r : Rtts) (now x window horizon : ℕ) → Sized r → Sized (sampleOf r now x window horizon)
+pub sample-sized : (r : Rtts) (now x window horizon : ℕ) → Sized r → Sized (sampledRtts r now x window horizon)
 unfolding withSample spanOf
 sample-sized r now x window horizon s =
     record {

@@ -2,15 +2,15 @@
 use Prim.Native.Nat.{ℕ}
 use lib.ListN.{replicate}
 use Rattle.base.specs.declared.types.MaybeTime.the-variants.{None, Some}
-use Rattle.rtt.specs.Samples.{noSample, withSample}
-use Rattle.rtt.specs.Spans.{noSpan, spanOf}
+use Rattle.rtt.specs.Samples.{maxSamples, noSample, withSample}
+use Rattle.rtt.specs.Spans.{maxSpans, noSpan, spanOf}
 use Rattle.rtt.specs.declared.types.Rtts.{Rtts}
 
 -- nothing measured
 abbrev pub newRtts : Rtts
-newRtts = record { rtts = replicate 32 noSample; spans = replicate 8 noSpan; rtt = None }
+newRtts = record { samples = replicate maxSamples noSample; spans = replicate maxSpans noSpan; rtt = None }
 
 -- a round trip of x measured now: the latest, among the samples, and in a span
-abbrev pub sampleOf : Rtts → ℕ → ℕ → ℕ → ℕ → Rtts
-sampleOf r now x window horizon =
-    record { rtts = withSample now x window (r .rtts); spans = spanOf now x horizon (r .spans); rtt = Some x }
+abbrev pub sampledRtts : Rtts → ℕ → ℕ → ℕ → ℕ → Rtts
+sampledRtts r now x window horizon =
+    record { samples = withSample now x window (r .samples); spans = spanOf now x horizon (r .spans); rtt = Some x }

@@ -2,16 +2,19 @@
 -- else replaces the oldest (first of equals) of 32").
 use Prim.Native.Nat.{ℕ}
 use mathlib.Core.List.{List, map}
-use mathlib.Core.Bool.{Bool, true, false, _&&_}
-use lib.Dec.{leb, ltb}
+use mathlib.Core.Bool.{Bool, true, false, cond, _&&_}
+use lib.Dec.{ltb}
 use lib.ListN.{length, set}
-use Rattle.base.specs.Seq.{pick, keep}
+use Rattle.base.specs.Seq.{keep}
 use Rattle.base.specs.Marked.{place, firstLeader}
 use Rattle.base.specs.Time.{elapsedOf}
 use Rattle.base.specs.declared.types.MaybeTime.{MaybeTime}
-use Rattle.base.specs.Least.{leastOf}
-use Rattle.rtt.specs.Times.{largestOf}
+use Rattle.base.specs.Least.{leastOf, largestOf}
 use Rattle.rtt.specs.declared.types.Sample.{Sample}
+
+-- how many samples the window keeps, `SAMPLES`
+abbrev pub maxSamples : ℕ
+maxSamples = 32
 
 -- a gap, as a path starts with
 abbrev pub noSample : Sample
@@ -27,23 +30,23 @@ isOld now window s = isSample s && ltb window (elapsedOf now (s .at))
 
 -- a place after the drop; a gap stays what it is
 abbrev pub keptSample : ℕ → ℕ → Sample → Sample
-keptSample now window s = pick (isOld now window s) noSample s
+keptSample now window s = cond (isOld now window s) noSample s
 
 -- drops samples older than the window
 abbrev pub keptSamples : ℕ → ℕ → List Sample → List Sample
 keptSamples now window l = map (keptSample now window) l
 
--- the order by age: s was taken before t or at the same instant
-abbrev pub noLater : Sample → Sample → Bool
-noLater s t = leb (s .at) (t .at)
+-- the order by age: s was taken before t
+abbrev pub sampleEarlier : Sample → Sample → Bool
+sampleEarlier s t = ltb (s .at) (t .at)
 
 -- the place of the oldest sample (first of equals), or the length where there is none
 abbrev pub oldestSample : List Sample → ℕ
-oldestSample l = firstLeader isSample noLater l
+oldestSample l = firstLeader isSample sampleEarlier l
 
 -- the first gap, else the oldest's place
 abbrev pub samplePlace : List Sample → ℕ
-samplePlace l = place isSample noLater l
+samplePlace l = place isSample sampleEarlier l
 
 -- a round trip measured now
 abbrev pub newSample : ℕ → ℕ → Sample

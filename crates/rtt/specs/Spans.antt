@@ -3,15 +3,19 @@
 -- the first gap or the oldest's place, as above"). A span's age is its `from`.
 use Prim.Native.Nat.{ℕ, _/_, min}
 use mathlib.Core.List.{List, map}
-use mathlib.Core.Bool.{Bool, true, false, _&&_}
-use lib.Dec.{leb, ltb}
+use mathlib.Core.Bool.{Bool, true, false, cond, _&&_}
+use lib.Dec.{ltb}
 use lib.ListN.{getD, set}
-use Rattle.base.specs.Seq.{pick, keep}
+use Rattle.base.specs.Seq.{keep}
 use Rattle.base.specs.Marked.{place, firstLeader, lastLeader}
 use Rattle.base.specs.Time.{elapsedOf}
 use Rattle.base.specs.declared.types.MaybeTime.{MaybeTime}
 use Rattle.base.specs.Least.{leastOf}
 use Rattle.rtt.specs.declared.types.Span.{Span}
+
+-- how many spans the horizon keeps, `SPANS`
+abbrev pub maxSpans : ℕ
+maxSpans = 8
 
 -- a gap, as a path starts with
 abbrev pub noSpan : Span
@@ -27,31 +31,31 @@ isPast now horizon s = isSpan s && ltb horizon (elapsedOf now (s .to))
 
 -- a place after the drop; a gap stays what it is
 abbrev pub keptSpan : ℕ → ℕ → Span → Span
-keptSpan now horizon s = pick (isPast now horizon s) noSpan s
+keptSpan now horizon s = cond (isPast now horizon s) noSpan s
 
 -- spans with now - to > horizon are dropped
 abbrev pub keptSpans : ℕ → ℕ → List Span → List Span
 keptSpans now horizon l = map (keptSpan now horizon) l
 
--- the order by age: s began before t or at the same instant
-abbrev pub noLater : Span → Span → Bool
-noLater s t = leb (s .from) (t .from)
+-- the order by age: s began before t
+abbrev pub spanEarlier : Span → Span → Bool
+spanEarlier s t = ltb (s .from) (t .from)
 
--- the order by age, turned round: s began after t or at the same instant
-abbrev pub noEarlier : Span → Span → Bool
-noEarlier s t = leb (t .from) (s .from)
+-- the order by age, turned round: s began after t
+abbrev pub spanLater : Span → Span → Bool
+spanLater s t = ltb (t .from) (s .from)
 
 -- the place of the newest span (last of equals), or the length where there is none
 abbrev pub newestSpan : List Span → ℕ
-newestSpan l = lastLeader isSpan noEarlier l
+newestSpan l = lastLeader isSpan spanLater l
 
 -- the place of the oldest span (first of equals), or the length where there is none
 abbrev pub oldestSpan : List Span → ℕ
-oldestSpan l = firstLeader isSpan noLater l
+oldestSpan l = firstLeader isSpan spanEarlier l
 
 -- the first gap or the oldest's place
 abbrev pub spanPlace : List Span → ℕ
-spanPlace l = place isSpan noLater l
+spanPlace l = place isSpan spanEarlier l
 
 -- there is such a span, and now - from < horizon/6, rounded down
 abbrev pub joinsOf : ℕ → ℕ → Span → Bool
@@ -72,7 +76,7 @@ openedOf now x l = set l (spanPlace l) (newSpan now x)
 -- the sample joins the newest, else opens a span
 abbrev pub enteredOf : ℕ → ℕ → ℕ → List Span → List Span
 enteredOf now x horizon l =
-    pick (joinsOf now horizon (getD l (newestSpan l) noSpan))
+    cond (joinsOf now horizon (getD l (newestSpan l) noSpan))
     (set l (newestSpan l) (joinedOf now x (getD l (newestSpan l) noSpan)))
     (openedOf now x l)
 

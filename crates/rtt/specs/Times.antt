@@ -1,18 +1,7 @@
--- The largest of some round trips, and the timeout (document 01, "RTT, ETX, score": "Timeout: the largest of floor,
--- 3 × last, and the smaller of 3 × largest and cap").
+-- The timeout (document 01, "RTT, ETX, score": "Timeout: the largest of floor, 3 × last, and the smaller of 3 × largest and cap").
 use Prim.Native.Nat.{ℕ, _*_, _-_, _^_, min, max}
-use mathlib.Core.List.{List, foldl}
 use Rattle.base.specs.declared.types.MaybeTime.{MaybeTime}
 use Rattle.base.specs.declared.types.MaybeTime.the-variants.{None, Some}
-
--- the larger of what there is and one more
-abbrev pub higherOf : MaybeTime → ℕ → MaybeTime
-higherOf None x = Some x
-higherOf (Some a) x = Some (max a x)
-
--- the largest of a list, or none
-abbrev pub largestOf : List ℕ → MaybeTime
-largestOf l = foldl higherOf None l
 
 -- 3 × RTT, which stops at 2 ^ 64 - 1; where nothing was measured, 0
 abbrev pub thriceOf : MaybeTime → ℕ
@@ -20,5 +9,5 @@ thriceOf None = 0
 thriceOf (Some r) = min (3 * r) (2 ^ 64 - 1)
 
 -- the largest of floor, 3 × last, and the smaller of 3 × largest and cap
-abbrev pub timeoutOf : MaybeTime → MaybeTime → ℕ → ℕ → ℕ
-timeoutOf last largest floor cap = max (max floor (thriceOf last)) (min (thriceOf largest) cap)
+abbrev pub timeoutBy : MaybeTime → MaybeTime → ℕ → ℕ → ℕ
+timeoutBy last largest floor cap = max (max floor (thriceOf last)) (min (thriceOf largest) cap)

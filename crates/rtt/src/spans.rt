@@ -1,8 +1,10 @@
 // The 8 spans of the horizon.
 ghost use mathlib.Core.Path.{_≡_};
 ghost use Prim.Native.Nat.{_<_};
-ghost use Rattle.base.specs.Marked.{firstGap, overtakes, catches};
-ghost use Rattle.rtt.specs.Spans.{isPast, keptSpan, keptSpans, isSpan, noLater, noEarlier, oldestSpan, newestSpan, spanPlace, joinsOf, joinedOf, openedOf, spanOf, baseRtt};
+ghost use Rattle.base.specs.Marked.{firstGap};
+ghost use Rattle.base.specs.Passes.{overtakes, catches};
+ghost use Rattle.rtt.specs.Spans.{maxSpans, isPast, keptSpan, keptSpans, isSpan, spanEarlier, spanLater, oldestSpan, newestSpan, spanPlace, joinsOf, joinedOf, openedOf, spanOf, baseRtt};
+use crate::types::SPANS;
 use crate::types::Span;
 use base::types::MaybeTime;
 
@@ -24,12 +26,12 @@ fn kept(s: Span, now: u64, horizon: u64) -> Span
 }
 
 // The spans without those past the horizon.
-fn drop_past(spans: [Span; 8], now: u64, horizon: u64) -> [Span; 8]
+fn drop_past(spans: [Span; SPANS], now: u64, horizon: u64) -> [Span; SPANS]
     ensures { λ r. ⌜ r ≡ keptSpans now horizon spans ⌝ }
 {
     let mut out = spans;
     let mut i: usize = 0;
-    while i < 8 {
+    while i < SPANS {
         let s = spans[i];
         out[i] = kept(s, now, horizon);
         i += 1;
@@ -38,11 +40,11 @@ fn drop_past(spans: [Span; 8], now: u64, horizon: u64) -> [Span; 8]
 }
 
 // The place of the first gap, or 8.
-fn first_gap(spans: [Span; 8]) -> usize
+fn first_gap(spans: [Span; SPANS]) -> usize
     ensures { λ r. ⌜ r ≡ firstGap isSpan spans ⌝ }
 {
     let mut i: usize = 0;
-    while i < 8 {
+    while i < SPANS {
         let s = spans[i];
         if !s.used {
             return i;
@@ -54,19 +56,19 @@ fn first_gap(spans: [Span; 8]) -> usize
 
 // Whether a span takes the place of the oldest found so far: of equals the first stays.
 fn older(s: Span, oldest: Span) -> bool
-    ensures { λ r. ⌜ r ≡ overtakes isSpan noLater s oldest ⌝ }
+    ensures { λ r. ⌜ r ≡ overtakes isSpan spanEarlier s oldest ⌝ }
 {
     s.used & (!oldest.used | (s.from < oldest.from))
 }
 
 // The place of the oldest span, the first of equals, or 8.
-fn oldest(spans: [Span; 8]) -> usize
+fn oldest(spans: [Span; SPANS]) -> usize
     ensures { λ r. ⌜ r ≡ oldestSpan spans ⌝ }
 {
     let mut best = Span::none();
-    let mut place: usize = 8;
+    let mut place: usize = SPANS;
     let mut i: usize = 0;
-    while i < 8 {
+    while i < SPANS {
         let s = spans[i];
         let here = i;
         i += 1;
@@ -80,19 +82,19 @@ fn oldest(spans: [Span; 8]) -> usize
 
 // Whether a span takes the place of the newest found so far: of equals the last does.
 fn newer(s: Span, newest: Span) -> bool
-    ensures { λ r. ⌜ r ≡ catches isSpan noEarlier s newest ⌝ }
+    ensures { λ r. ⌜ r ≡ catches isSpan spanLater s newest ⌝ }
 {
     s.used & (!newest.used | (newest.from <= s.from))
 }
 
 // The place of the newest span, the last of equals, or 8.
-fn newest(spans: [Span; 8]) -> usize
+fn newest(spans: [Span; SPANS]) -> usize
     ensures { λ r. ⌜ r ≡ newestSpan spans ⌝ }
 {
     let mut best = Span::none();
-    let mut place: usize = 8;
+    let mut place: usize = SPANS;
     let mut i: usize = 0;
-    while i < 8 {
+    while i < SPANS {
         let s = spans[i];
         let here = i;
         i += 1;
@@ -105,11 +107,11 @@ fn newest(spans: [Span; 8]) -> usize
 }
 
 // The place that a new span takes: the first gap, else the oldest's.
-fn place(spans: [Span; 8]) -> usize
-    ensures { λ r. ⌜ (r ≡ spanPlace spans) × (r < 8) ⌝ }
+fn place(spans: [Span; SPANS]) -> usize
+    ensures { λ r. ⌜ (r ≡ spanPlace spans) × (r < maxSpans) ⌝ }
 {
     let gap = first_gap(spans);
-    if gap < 8 {
+    if gap < SPANS {
         return gap;
     }
     oldest(spans)
@@ -129,13 +131,13 @@ fn joined(s: Span, now: u64, rtt: u64) -> Span
     Span {
         from: s.from,
         to: now,
-        rtt: base::time::smaller(s.rtt, rtt),
+        rtt: base::num::min_u64(s.rtt, rtt),
         used: true,
     }
 }
 
 // The spans with a new one for a sample at `now`.
-fn opened(spans: [Span; 8], now: u64, rtt: u64) -> [Span; 8]
+fn opened(spans: [Span; SPANS], now: u64, rtt: u64) -> [Span; SPANS]
     ensures { λ r. ⌜ r ≡ openedOf now rtt spans ⌝ }
 {
     let slot = place(spans);
@@ -150,12 +152,12 @@ fn opened(spans: [Span; 8], now: u64, rtt: u64) -> [Span; 8]
 }
 
 // The spans after one more sample at `now`: it joins the newest, or opens a span.
-pub fn span(spans: [Span; 8], now: u64, rtt: u64, horizon: u64) -> [Span; 8]
+pub fn span(spans: [Span; SPANS], now: u64, rtt: u64, horizon: u64) -> [Span; SPANS]
     ensures { λ r. ⌜ r ≡ spanOf now rtt horizon spans ⌝ }
 {
     let mut out = drop_past(spans, now, horizon);
     let slot = newest(out);
-    if slot < 8 {
+    if slot < SPANS {
         let s = out[slot];
         if joins(s, now, horizon) {
             out[slot] = joined(s, now, rtt);
@@ -166,12 +168,12 @@ pub fn span(spans: [Span; 8], now: u64, rtt: u64, horizon: u64) -> [Span; 8]
 }
 
 // The least round trip over the horizon.
-pub fn base_rtt(spans: [Span; 8]) -> MaybeTime
+pub fn base_rtt(spans: [Span; SPANS]) -> MaybeTime
     ensures { λ r. ⌜ r ≡ baseRtt spans ⌝ }
 {
     let mut least = MaybeTime::None;
     let mut i: usize = 0;
-    while i < 8 {
+    while i < SPANS {
         let s = spans[i];
         i += 1;
         if s.used {

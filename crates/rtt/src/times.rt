@@ -1,17 +1,7 @@
-// Round trips: the largest, and the timeout.
+// The timeout.
 ghost use mathlib.Core.Path.{_≡_};
-ghost use Rattle.rtt.specs.Times.{higherOf, thriceOf, timeoutOf};
+ghost use Rattle.rtt.specs.Times.{thriceOf, timeoutBy};
 use base::types::MaybeTime;
-
-// The largest so far, with one more.
-pub fn higher(largest: MaybeTime, rtt: u64) -> MaybeTime
-    ensures { λ r. ⌜ r ≡ higherOf largest rtt ⌝ }
-{
-    match largest {
-        MaybeTime::None => MaybeTime::Some(rtt),
-        MaybeTime::Some(t) => MaybeTime::Some(base::time::larger(t, rtt)),
-    }
-}
 
 // Three times a round trip, which stops at 2^64 - 1; 0 where nothing was measured.
 fn thrice(rtt: MaybeTime) -> u64
@@ -30,10 +20,10 @@ fn thrice(rtt: MaybeTime) -> u64
 
 // How long a probe waits for its answer, by the last and the largest round trip.
 pub fn timeout(last: MaybeTime, largest: MaybeTime, floor: u64, cap: u64) -> u64
-    ensures { λ r. ⌜ r ≡ timeoutOf last largest floor cap ⌝ }
+    ensures { λ r. ⌜ r ≡ timeoutBy last largest floor cap ⌝ }
 {
-    base::time::larger(
-        base::time::larger(floor, thrice(last)),
-        base::time::smaller(thrice(largest), cap),
+    base::num::max_u64(
+        base::num::max_u64(floor, thrice(last)),
+        base::num::min_u64(thrice(largest), cap),
     )
 }

@@ -5,6 +5,12 @@ ghost use Rattle.rtt.specs.Spans.{noSpan};
 ghost use Rattle.rtt.specs.Rtts.{newRtts};
 use base::types::MaybeTime;
 
+// The samples that the window keeps.
+pub const SAMPLES: usize = 32;
+
+// The spans that the horizon keeps.
+pub const SPANS: usize = 8;
+
 // A round trip, and the instant at which it was measured.
 pub struct Sample {
     pub at: u64,
@@ -22,8 +28,8 @@ pub struct Span {
 
 // The samples of the window, the spans of the horizon, and the latest round trip.
 pub struct Rtts {
-    pub rtts: [Sample; 32],
-    pub spans: [Span; 8],
+    pub samples: [Sample; SAMPLES],
+    pub spans: [Span; SPANS],
     pub rtt: MaybeTime,
 }
 
@@ -61,11 +67,11 @@ impl Rtts {
     {
         let sample = Sample::none();
         let span = Span::none();
-        let rtts = [sample; 32];
-        let spans = [span; 8];
+        let samples = [sample; SAMPLES];
+        let spans = [span; SPANS];
         let rtt = MaybeTime::None;
         Rtts {
-            rtts: rtts,
+            samples: samples,
             spans: spans,
             rtt: rtt,
         }

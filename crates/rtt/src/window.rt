@@ -1,8 +1,10 @@
 // The 32 samples of the window.
 ghost use mathlib.Core.Path.{_≡_};
 ghost use Prim.Native.Nat.{_<_};
-ghost use Rattle.base.specs.Marked.{firstGap, overtakes};
-ghost use Rattle.rtt.specs.Samples.{isOld, keptSample, keptSamples, isSample, noLater, oldestSample, samplePlace, withSample, minRtt, maxRtt, samplesOf};
+ghost use Rattle.base.specs.Marked.{firstGap};
+ghost use Rattle.base.specs.Passes.{overtakes};
+ghost use Rattle.rtt.specs.Samples.{maxSamples, isOld, keptSample, keptSamples, isSample, sampleEarlier, oldestSample, samplePlace, withSample, minRtt, maxRtt, samplesOf};
+use crate::types::SAMPLES;
 use crate::types::Sample;
 use base::types::MaybeTime;
 
@@ -24,12 +26,12 @@ fn kept(s: Sample, now: u64, window: u64) -> Sample
 }
 
 // The samples without those older than the window.
-fn drop_old(rtts: [Sample; 32], now: u64, window: u64) -> [Sample; 32]
+fn drop_old(rtts: [Sample; SAMPLES], now: u64, window: u64) -> [Sample; SAMPLES]
     ensures { λ r. ⌜ r ≡ keptSamples now window rtts ⌝ }
 {
     let mut out = rtts;
     let mut i: usize = 0;
-    while i < 32 {
+    while i < SAMPLES {
         let s = rtts[i];
         out[i] = kept(s, now, window);
         i += 1;
@@ -38,11 +40,11 @@ fn drop_old(rtts: [Sample; 32], now: u64, window: u64) -> [Sample; 32]
 }
 
 // The place of the first gap, or 32.
-fn first_gap(rtts: [Sample; 32]) -> usize
+fn first_gap(rtts: [Sample; SAMPLES]) -> usize
     ensures { λ r. ⌜ r ≡ firstGap isSample rtts ⌝ }
 {
     let mut i: usize = 0;
-    while i < 32 {
+    while i < SAMPLES {
         let s = rtts[i];
         if !s.used {
             return i;
@@ -54,19 +56,19 @@ fn first_gap(rtts: [Sample; 32]) -> usize
 
 // Whether a sample takes the place of the oldest found so far: of equals the first stays.
 fn older(s: Sample, oldest: Sample) -> bool
-    ensures { λ r. ⌜ r ≡ overtakes isSample noLater s oldest ⌝ }
+    ensures { λ r. ⌜ r ≡ overtakes isSample sampleEarlier s oldest ⌝ }
 {
     s.used & (!oldest.used | (s.at < oldest.at))
 }
 
 // The place of the oldest sample, the first of equals, or 32.
-fn oldest(rtts: [Sample; 32]) -> usize
+fn oldest(rtts: [Sample; SAMPLES]) -> usize
     ensures { λ r. ⌜ r ≡ oldestSample rtts ⌝ }
 {
     let mut best = Sample::none();
-    let mut place: usize = 32;
+    let mut place: usize = SAMPLES;
     let mut i: usize = 0;
-    while i < 32 {
+    while i < SAMPLES {
         let s = rtts[i];
         let here = i;
         i += 1;
@@ -79,18 +81,18 @@ fn oldest(rtts: [Sample; 32]) -> usize
 }
 
 // The place that a new sample takes: the first gap, else the oldest's.
-fn place(rtts: [Sample; 32]) -> usize
-    ensures { λ r. ⌜ (r ≡ samplePlace rtts) × (r < 32) ⌝ }
+fn place(rtts: [Sample; SAMPLES]) -> usize
+    ensures { λ r. ⌜ (r ≡ samplePlace rtts) × (r < maxSamples) ⌝ }
 {
     let gap = first_gap(rtts);
-    if gap < 32 {
+    if gap < SAMPLES {
         return gap;
     }
     oldest(rtts)
 }
 
 // The samples after one more at `now`, those older than the window dropped.
-pub fn keep(rtts: [Sample; 32], now: u64, rtt: u64, window: u64) -> [Sample; 32]
+pub fn keep(rtts: [Sample; SAMPLES], now: u64, rtt: u64, window: u64) -> [Sample; SAMPLES]
     ensures { λ r. ⌜ r ≡ withSample now rtt window rtts ⌝ }
 {
     let mut out = drop_old(rtts, now, window);
@@ -104,12 +106,12 @@ pub fn keep(rtts: [Sample; 32], now: u64, rtt: u64, window: u64) -> [Sample; 32]
 }
 
 // The least round trip among the window's samples.
-pub fn min_rtt(rtts: [Sample; 32]) -> MaybeTime
+pub fn min_rtt(rtts: [Sample; SAMPLES]) -> MaybeTime
     ensures { λ r. ⌜ r ≡ minRtt rtts ⌝ }
 {
     let mut least = MaybeTime::None;
     let mut i: usize = 0;
-    while i < 32 {
+    while i < SAMPLES {
         let s = rtts[i];
         i += 1;
         if s.used {
@@ -120,28 +122,28 @@ pub fn min_rtt(rtts: [Sample; 32]) -> MaybeTime
 }
 
 // The largest round trip among the window's samples.
-pub fn max_rtt(rtts: [Sample; 32]) -> MaybeTime
+pub fn max_rtt(rtts: [Sample; SAMPLES]) -> MaybeTime
     ensures { λ r. ⌜ r ≡ maxRtt rtts ⌝ }
 {
     let mut largest = MaybeTime::None;
     let mut i: usize = 0;
-    while i < 32 {
+    while i < SAMPLES {
         let s = rtts[i];
         i += 1;
         if s.used {
-            largest = crate::times::higher(largest, s.rtt);
+            largest = base::time::higher(largest, s.rtt);
         }
     }
     largest
 }
 
 // How many samples the window holds.
-pub fn samples(rtts: [Sample; 32]) -> usize
+pub fn samples(rtts: [Sample; SAMPLES]) -> usize
     ensures { λ r. ⌜ r ≡ samplesOf rtts ⌝ }
 {
     let mut n: usize = 0;
     let mut i: usize = 0;
-    while i < 32 {
+    while i < SAMPLES {
         let s = rtts[i];
         i += 1;
         if s.used {

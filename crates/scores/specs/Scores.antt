@@ -17,7 +17,7 @@ scored etx (time.Some t) = Some (scoreOf etx t)
 
 -- by the least round trip of the window
 abbrev pub pathScore : Liveness → MaybeScore
-pathScore p = scored (p .etx) (minRtt (p .rtts .rtts))
+pathScore p = scored (p .etx) (minRtt (p .rtts .samples))
 
 -- by the least round trip over the horizon
 abbrev pub pathSteady : Liveness → MaybeScore

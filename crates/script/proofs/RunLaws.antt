@@ -11,6 +11,8 @@ use lib.ListN.{length, take, drop, length-append, length-drop}
 use lib.Seq.{drop-drop, take-all}
 use native.Mathlib.Nat.{le-of-eq}
 use Rattle.base.proofs.Cases.{on-order}
+use Rattle.base.specs.Refusals.{refusalNumber}
+use Rattle.base.specs.declared.types.Refusal.the-variants.{Cut, Lent}
 use Rattle.octets.specs.Octets.{le, flat, wordsOf, over}
 use Rattle.octets.proofs.Fill.{Filled, fill, filled-over, filled-length, flat-length, flat-append, le-length, over-fits, over-not, nothing}
 use Rattle.image.specs.Image.{imageOf}
@@ -128,17 +130,17 @@ running-done {s} {l₀} {l} {m} {p} {at} r h w f = go (r .left) (omega (arith, r
 
 -- the refusals
 module _ (s l : List ℕ) where
-  pub script-cut : (length s % 48 ≡ 0 → ⊥) → (13 ≡ scriptNumber s (length l)) × (l ≡ scriptOut s l)
+  pub script-cut : {r : ℕ} → (length s % 48 ≡ 0 → ⊥) → r ≡ refusalNumber Cut → (r ≡ scriptNumber s (length l)) × (l ≡ scriptOut s l)
   unfolding scriptNumber scriptOut
-  script-cut h = let e = ne-eqb (length s % 48) 0 h in (rw e, rw e)
+  script-cut h q = let e = ne-eqb (length s % 48) 0 h in (rw e q, rw e)
 
   module _ (h : length s % 48 ≡ 0) where
-    pub script-lent : length l < length s + 1800 → (16 ≡ scriptNumber s (length l)) × (l ≡ scriptOut s l)
+    pub script-lent : {r : ℕ} → length l < length s + 1800 → r ≡ refusalNumber Lent → (r ≡ scriptNumber s (length l)) × (l ≡ scriptOut s l)
     unfolding scriptNumber scriptOut
-    script-lent k =
+    script-lent k q =
         let e = eq-eqb (length s % 48) 0 h in
         let f = lt-ltb (length l) (length s + 1800) k in
-        (rw (e, f), rw (e, f))
+        (rw (e, f) q, rw (e, f))
 
     pub script-done : {m : List ℕ} → length s + 1800 ≤ length l → m ≡ over (bytesOf (callsOf (length s / 48) s)) l
         → (0 ≡ scriptNumber s (length l)) × (m ≡ scriptOut s l)

@@ -1,70 +1,58 @@
 -- Answers as six numbers: the refusal number, 0 if accepted, then the values, 0 where there are fewer than five.
 use Prim.Native.Nat.{ℕ}
 use mathlib.Core.List.{List, [], _∷_}
+use Rattle.base.specs.Seq.{flagOf}
+use Rattle.base.specs.declared.types.Refusal.the-variants.{Kind}
 use Rattle.base.specs.declared.types.MaybeTime.{MaybeTime}
-use Rattle.base.specs.declared.types.MaybeTime.the-variants.{None, Some}
-use Rattle.live.specs.Answers.{idNumber, idValue, answerNumber, answerValue, answerProbe, expiredNumber, expiredValue, doneNumber, lenNumber, lenValue, timeNumber, timeValue, proveNumber, proveValue, raiseNumber, raiseValue, judgeNumber, judgeValue}
+use Rattle.base.specs.declared.types.MaybeLen.{MaybeLen}
+use Rattle.live.specs.Answers.{answerNumber, answerValue, answerProbe, isMatching}
 use Rattle.live.specs.declared.types.Liveness.{Liveness}
-use Rattle.live.specs.declared.types.Sending.{Sending}
-use Rattle.live.specs.declared.types.Answering.{Answering}
-use Rattle.live.specs.declared.types.Expiring.{Expiring}
-use Rattle.live.specs.declared.types.Doing.{Doing}
-use Rattle.live.specs.declared.types.Proving.{Proving}
-use Rattle.live.specs.declared.types.Raising.{Raising}
-use Rattle.live.specs.declared.types.Judging.{Judging}
-use Rattle.live.specs.declared.types.Settling.{Settling}
-use Rattle.live.specs.declared.types.LenAnswer.{LenAnswer}
-use Rattle.live.specs.declared.types.TimeAnswer.{TimeAnswer}
+use Rattle.live.specs.declared.types.Outcome.{Outcome}
+use Rattle.live.specs.declared.types.Answer.{Answer}
+use Rattle.live.specs.declared.types.Answer.the-variants.{Done, Refused}
+use Rattle.image.specs.Image.{timeTag, timeOrZero, lenTag, lenOrZero, etxBits}
+use Rattle.scores.specs.declared.MaybeScore.{MaybeScore}
+use Rattle.scores.specs.declared.MaybeScore.the-variants as score
 use Rattle.script.specs.declared.types.Called.{Called}
 
--- a number and one value, with a path
-abbrev pub called : Liveness → ℕ → ℕ → Called
-called p n v = record { path = p; words = n ∷ v ∷ 0 ∷ 0 ∷ 0 ∷ 0 ∷ [] }
+-- an answer with a path: its number, its value, and the probe that it names
+abbrev pub answered : Liveness → Answer → Called
+answered p a = record { path = p; words = answerNumber a ∷ answerValue a ∷ answerProbe a }
+
+-- what a method gives
+abbrev pub outcome : Outcome → Called
+outcome o = answered (o .path) (o .answer)
 
 -- accepted, with no value
 abbrev pub plain : Liveness → Called
-plain p = called p 0 0
-
--- accepted, with one value
-abbrev pub valued : Liveness → ℕ → Called
-valued p x = called p 0 x
-
--- accepted, with 1 and an instant or duration, or 0 for none
-abbrev pub timed : Liveness → MaybeTime → Called
-timed p None = plain p
-timed p (Some t) = record { path = p; words = 0 ∷ 1 ∷ t ∷ 0 ∷ 0 ∷ 0 ∷ [] }
+plain p = answered p Done
 
 -- no such call: 15
 abbrev pub kindless : Liveness → Called
-kindless p = called p 15 0
+kindless p = answered p (Refused Kind)
 
--- what each method gives
-abbrev pub idCalled : Sending → Called
-idCalled s = called (s .path) (idNumber (s .answer)) (idValue (s .answer))
+-- accepted, with one value
+abbrev pub valued : Liveness → ℕ → Called
+valued p x = record { path = p; words = 0 ∷ x ∷ 0 ∷ 0 ∷ 0 ∷ 0 ∷ [] }
 
-abbrev pub answerCalled : Answering → Called
-answerCalled s = record { path = s .path; words = answerNumber (s .answer) ∷ answerValue (s .answer) ∷ answerProbe (s .answer) }
+-- accepted, with what may be missing: 1 and its number, or 0
+abbrev pub tagged : Liveness → ℕ → ℕ → Called
+tagged p tag x = record { path = p; words = 0 ∷ tag ∷ x ∷ 0 ∷ 0 ∷ 0 ∷ [] }
 
-abbrev pub expiredCalled : Expiring → Called
-expiredCalled s = called (s .path) (expiredNumber (s .answer)) (expiredValue (s .answer))
+-- an instant or a duration
+abbrev pub timed : Liveness → MaybeTime → Called
+timed p x = tagged p (timeTag x) (timeOrZero x)
 
-abbrev pub doneCalled : Doing → Called
-doneCalled s = called (s .path) (doneNumber (s .answer)) 0
+-- a length
+abbrev pub sized : Liveness → MaybeLen → Called
+sized p x = tagged p (lenTag x) (lenOrZero x)
 
-abbrev pub lenCalled : Liveness → LenAnswer → Called
-lenCalled p a = called p (lenNumber a) (lenValue a)
+-- a score, by its pattern
+abbrev pub scored : Liveness → MaybeScore → Called
+scored p score.None = tagged p 0 0
+scored p (score.Some x) = tagged p 1 (etxBits x)
 
-abbrev pub settledCalled : Settling → Called
-settledCalled s = lenCalled (s .path) (s .answer)
-
-abbrev pub timeCalled : Liveness → TimeAnswer → Called
-timeCalled p a = called p (timeNumber a) (timeValue a)
-
-abbrev pub provedCalled : Proving → Called
-provedCalled s = called (s .path) (proveNumber (s .answer)) (proveValue (s .answer))
-
-abbrev pub raisedCalled : Raising → Called
-raisedCalled s = called (s .path) (raiseNumber (s .answer)) (raiseValue (s .answer))
-
-abbrev pub judgedCalled : Judging → Called
-judgedCalled s = called (s .path) (judgeNumber (s .answer)) (judgeValue (s .answer))
+-- whether what `answer` gave is a matching answer
+abbrev pub matched : Outcome → Called
+matched o =
+    record { path = o .path; words = answerNumber (o .answer) ∷ flagOf (isMatching (o .answer)) ∷ 0 ∷ 0 ∷ 0 ∷ 0 ∷ [] }

@@ -2,10 +2,11 @@
 -- each answer, then the image of the path. Refusals: 13 where the bytes end inside a call, 16 where too few are lent.
 use Prim.Native.Nat.{ℕ, zero, suc, _+_, _/_, _%_}
 use mathlib.Core.List.{List, [], _∷_, _++_}
-use mathlib.Core.Bool.{Bool}
+use mathlib.Core.Bool.{Bool, cond}
 use lib.Dec.{eqb, ltb}
 use lib.ListN.{length, drop}
-use Rattle.base.specs.Seq.{pick}
+use Rattle.base.specs.Refusals.{refusalNumber}
+use Rattle.base.specs.declared.types.Refusal.the-variants.{Cut, Lent}
 use Rattle.octets.specs.Octets.{readAt, wordsOf, over}
 use Rattle.image.specs.Image.{imageOf}
 use Rattle.live.specs.New.{newLiveness}
@@ -46,8 +47,9 @@ bytesOf cs = wordsOf (answersOf newLiveness cs) ++ imageOf (runOf newLiveness cs
 
 -- 13 where the script ends inside a call, 16 where fewer bytes are lent than it needs
 unfoldable pub scriptNumber : List ℕ → ℕ → ℕ
-scriptNumber s lent = pick (eqb (length s % 48) 0) (pick (ltb lent (length s + 1800)) 16 0) 13
+scriptNumber s lent =
+    cond (eqb (length s % 48) 0) (cond (ltb lent (length s + 1800)) (refusalNumber Lent) 0) (refusalNumber Cut)
 
 -- the lent bytes after it: the script's over their front, or as they were where it is refused
 unfoldable pub scriptOut : List ℕ → List ℕ → List ℕ
-scriptOut s l = pick (eqb (scriptNumber s (length l)) 0) (over (bytesOf (callsOf (length s / 48) s)) l) l
+scriptOut s l = cond (eqb (scriptNumber s (length l)) 0) (over (bytesOf (callsOf (length s / 48) s)) l) l

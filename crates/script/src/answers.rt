@@ -1,43 +1,52 @@
 // Answers as numbers: the refusal number or 0, then the values, 0 where there are fewer than five.
 ghost use mathlib.Core.Path.{_≡_};
-ghost use Rattle.base.specs.Refusals.{refusalNumber};
-ghost use Rattle.script.specs.Answers.{plain, valued, timed, idCalled, answerCalled, expiredCalled, doneCalled, lenCalled, settledCalled, timeCalled, kindless, provedCalled, raisedCalled, judgedCalled};
+ghost use Rattle.script.specs.Answers.{answered, outcome, plain, valued, tagged, timed, sized, scored, matched, kindless};
 use crate::types::Called;
 use base::types::*;
 use live::types::*;
+use scores::MaybeScore;
 
-// The number of a refusal in document 01's table.
-pub fn number(why: Refusal) -> u64
-    ensures { λ r. ⌜ r ≡ refusalNumber why ⌝ }
+// An answer with a path: its number, its value, and the probe that it names.
+pub fn of_answer(path: Liveness, a: Answer) -> Called
+    ensures { λ r. ⌜ r ≡ answered path a ⌝ }
 {
-    match why {
-        Refusal::Slot => 1,
-        Refusal::Empty => 2,
-        Refusal::Held => 3,
-        Refusal::Flag => 4,
-        Refusal::Length => 5,
-        Refusal::Duration => 6,
-        Refusal::Margin => 7,
-        Refusal::Full => 8,
-        Refusal::Unknown => 9,
-        Refusal::NoSize => 10,
-        Refusal::NoPath => 11,
-        Refusal::Index => 12,
-        Refusal::Cut => 13,
-        Refusal::Map => 14,
-        Refusal::Kind => 15,
-        Refusal::Lent => 16,
+    let s = a.sent();
+    Called {
+        path: path,
+        words: [
+            a.number(),
+            a.value(),
+            s.probe_id as u64,
+            s.at,
+            s.due,
+            s.len as u64,
+        ],
     }
+}
+
+// What a method gives.
+pub fn of_outcome(o: Outcome) -> Called
+    ensures { λ r. ⌜ r ≡ outcome o ⌝ }
+{
+    let answer = o.answer;
+    let path = o.path;
+    of_answer(path, answer)
 }
 
 // A call that gives a path and no value.
 pub fn give(path: Liveness) -> Called
     ensures { λ r. ⌜ r ≡ plain path ⌝ }
 {
-    Called {
-        path: path,
-        words: [0, 0, 0, 0, 0, 0],
-    }
+    let answer = Answer::Done;
+    of_answer(path, answer)
+}
+
+// A call that is none: refused as 15.
+pub fn no_kind(path: Liveness) -> Called
+    ensures { λ r. ⌜ r ≡ kindless path ⌝ }
+{
+    let answer = Answer::Refused(Refusal::Kind);
+    of_answer(path, answer)
 }
 
 // A call that leaves the path and gives one number.
@@ -50,219 +59,55 @@ pub fn tell(path: Liveness, x: u64) -> Called
     }
 }
 
-// A call that leaves the path and gives an instant or a duration, if there is one.
-pub fn tell_time(path: Liveness, x: MaybeTime) -> Called
-    ensures { λ r. ⌜ r ≡ timed path x ⌝ }
-{
-    match x {
-        MaybeTime::None => Called {
-            path: path,
-            words: [0, 0, 0, 0, 0, 0],
-        },
-        MaybeTime::Some(t) => Called {
-            path: path,
-            words: [0, 1, t, 0, 0, 0],
-        },
-    }
-}
-
-// What `send`, `seek_send` and `seek_ring` give.
-pub fn of_sending(s: Sending) -> Called
-    ensures { λ r. ⌜ r ≡ idCalled s ⌝ }
-{
-    let answer = s.answer;
-    let path = s.path;
-    match answer {
-        IdAnswer::Id(id) => Called {
-            path: path,
-            words: [0, id as u64, 0, 0, 0, 0],
-        },
-        IdAnswer::Refused(why) => Called {
-            path: path,
-            words: [number(why), 0, 0, 0, 0, 0],
-        },
-    }
-}
-
-// What `answer` gives.
-pub fn of_answering(s: Answering) -> Called
-    ensures { λ r. ⌜ r ≡ answerCalled s ⌝ }
-{
-    let answer = s.answer;
-    let path = s.path;
-    match answer {
-        Answer::InTime(p) => Called {
-            path: path,
-            words: [0, 1, p.probe_id as u64, p.at, p.due, p.len as u64],
-        },
-        Answer::Late(p) => Called {
-            path: path,
-            words: [0, 2, p.probe_id as u64, p.at, p.due, p.len as u64],
-        },
-        Answer::Refused(why) => Called {
-            path: path,
-            words: [number(why), 0, 0, 0, 0, 0],
-        },
-    }
-}
-
-// What `expire` gives.
-pub fn of_expiring(s: Expiring) -> Called
-    ensures { λ r. ⌜ r ≡ expiredCalled s ⌝ }
-{
-    let answer = s.answer;
-    let path = s.path;
-    match answer {
-        Expired::None => Called {
-            path: path,
-            words: [0, 0, 0, 0, 0, 0],
-        },
-        Expired::Counted => Called {
-            path: path,
-            words: [0, 1, 0, 0, 0, 0],
-        },
-        Expired::NotCounted => Called {
-            path: path,
-            words: [0, 2, 0, 0, 0, 0],
-        },
-        Expired::Refused(why) => Called {
-            path: path,
-            words: [number(why), 0, 0, 0, 0, 0],
-        },
-    }
-}
-
-// What `sample`, `heard` and `shed` give.
-pub fn of_doing(s: Doing) -> Called
-    ensures { λ r. ⌜ r ≡ doneCalled s ⌝ }
-{
-    let answer = s.answer;
-    let path = s.path;
-    match answer {
-        Done::Done => Called {
-            path: path,
-            words: [0, 0, 0, 0, 0, 0],
-        },
-        Done::Refused(why) => Called {
-            path: path,
-            words: [number(why), 0, 0, 0, 0, 0],
-        },
-    }
-}
-
-// A length as an answer.
-pub fn of_len(path: Liveness, answer: LenAnswer) -> Called
-    ensures { λ r. ⌜ r ≡ lenCalled path answer ⌝ }
-{
-    match answer {
-        LenAnswer::Len(n) => Called {
-            path: path,
-            words: [0, n as u64, 0, 0, 0, 0],
-        },
-        LenAnswer::Refused(why) => Called {
-            path: path,
-            words: [number(why), 0, 0, 0, 0, 0],
-        },
-    }
-}
-
-// What `seek_answer` gives.
-pub fn of_settling(s: Settling) -> Called
-    ensures { λ r. ⌜ r ≡ settledCalled s ⌝ }
-{
-    let answer = s.answer;
-    let path = s.path;
-    of_len(path, answer)
-}
-
-// A call that is none: refused as 15.
-pub fn no_kind(path: Liveness) -> Called
-    ensures { λ r. ⌜ r ≡ kindless path ⌝ }
+// A call that leaves the path and gives what may be missing: 1 and the number, or 0.
+fn tell_tagged(path: Liveness, tag: u64, x: u64) -> Called
+    ensures { λ r. ⌜ r ≡ tagged path tag x ⌝ }
 {
     Called {
         path: path,
-        words: [15, 0, 0, 0, 0, 0],
+        words: [0, tag, x, 0, 0, 0],
     }
 }
 
-// A duration as an answer.
-pub fn of_time(path: Liveness, answer: TimeAnswer) -> Called
-    ensures { λ r. ⌜ r ≡ timeCalled path answer ⌝ }
+// An instant or a duration, if there is one.
+pub fn tell_time(path: Liveness, x: MaybeTime) -> Called
+    ensures { λ r. ⌜ r ≡ timed path x ⌝ }
 {
-    match answer {
-        TimeAnswer::Time(t) => Called {
-            path: path,
-            words: [0, t, 0, 0, 0, 0],
-        },
-        TimeAnswer::Refused(why) => Called {
-            path: path,
-            words: [number(why), 0, 0, 0, 0, 0],
-        },
+    tell_tagged(path, image::words::time_tag(x), image::words::time_value(x))
+}
+
+// A length, if there is one.
+pub fn tell_len(path: Liveness, x: MaybeLen) -> Called
+    ensures { λ r. ⌜ r ≡ sized path x ⌝ }
+{
+    tell_tagged(path, image::words::len_tag(x), image::words::len_value(x))
+}
+
+// A score by its pattern, if there is one.
+pub fn tell_score(path: Liveness, x: MaybeScore) -> Called
+    ensures { λ r. ⌜ r ≡ scored path x ⌝ }
+{
+    match x {
+        MaybeScore::None => tell_tagged(path, 0, 0),
+        MaybeScore::Some(s) => tell_tagged(path, 1, image::words::etx_bits(s)),
     }
 }
 
-// What `prove` gives.
-pub fn of_proving(s: Proving) -> Called
-    ensures { λ r. ⌜ r ≡ provedCalled s ⌝ }
+// Whether what `answer` gave is a matching answer.
+pub fn of_matching(o: Outcome) -> Called
+    ensures { λ r. ⌜ r ≡ matched o ⌝ }
 {
-    let answer = s.answer;
-    let path = s.path;
-    match answer {
-        ProveAnswer::Changed => Called {
-            path: path,
-            words: [0, 1, 0, 0, 0, 0],
-        },
-        ProveAnswer::Same => Called {
-            path: path,
-            words: [0, 0, 0, 0, 0, 0],
-        },
-        ProveAnswer::Refused(why) => Called {
-            path: path,
-            words: [number(why), 0, 0, 0, 0, 0],
-        },
-    }
-}
-
-// What `seek_proved` gives.
-pub fn of_raising(s: Raising) -> Called
-    ensures { λ r. ⌜ r ≡ raisedCalled s ⌝ }
-{
-    let answer = s.answer;
-    let path = s.path;
-    match answer {
-        RaiseAnswer::Raised => Called {
-            path: path,
-            words: [0, 1, 0, 0, 0, 0],
-        },
-        RaiseAnswer::Kept => Called {
-            path: path,
-            words: [0, 0, 0, 0, 0, 0],
-        },
-        RaiseAnswer::Refused(why) => Called {
-            path: path,
-            words: [number(why), 0, 0, 0, 0, 0],
-        },
-    }
-}
-
-// What `seek_judge` gives.
-pub fn of_judging(s: Judging) -> Called
-    ensures { λ r. ⌜ r ≡ judgedCalled s ⌝ }
-{
-    let answer = s.answer;
-    let path = s.path;
-    match answer {
-        JudgeAnswer::Lost => Called {
-            path: path,
-            words: [0, 1, 0, 0, 0, 0],
-        },
-        JudgeAnswer::Waits => Called {
-            path: path,
-            words: [0, 0, 0, 0, 0, 0],
-        },
-        JudgeAnswer::Refused(why) => Called {
-            path: path,
-            words: [number(why), 0, 0, 0, 0, 0],
-        },
+    let answer = o.answer;
+    let path = o.path;
+    Called {
+        path: path,
+        words: [
+            answer.number(),
+            base::flag::flag(answer.matching()),
+            0,
+            0,
+            0,
+            0,
+        ],
     }
 }

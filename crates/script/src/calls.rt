@@ -1,23 +1,21 @@
 // The calls of a script, by their numbers.
 ghost use mathlib.Core.Path.{_≡_};
-ghost use Prim.Native.Nat.{_%_, _^_};
-ghost use lib.Dec.{eqb};
-ghost use Rattle.script.specs.Calls.{probeCall, lineCall, sizeCall, seekCall, stopCall, timeCall, readCall, highCall, callOf, sentOf};
+ghost use Rattle.script.specs.Calls.{low32, isOdd, sentOf, probeCall, lineCall, sizeCall, seekCall, stopCall, timeCall, readCall, scoreCall, countCall, highCall, callOf};
 use crate::answers::*;
 use crate::types::*;
 use live::types::*;
 use ring::types::Sent;
 
 // The lowest 32 bits of a number.
-fn low(x: u64) -> u32
-    ensures { λ r. ⌜ r ≡ x % 2 ^ 32 ⌝ }
+fn low32(x: u64) -> u32
+    ensures { λ r. ⌜ r ≡ low32 x ⌝ }
 {
     (x % 0x1_0000_0000) as u32
 }
 
 // Whether a number is odd: a flag.
 fn odd(x: u64) -> bool
-    ensures { λ r. ⌜ r ≡ eqb (x % 2) 1 ⌝ }
+    ensures { λ r. ⌜ r ≡ isOdd x ⌝ }
 {
     x % 2 == 1
 }
@@ -29,7 +27,7 @@ fn sent(c: Call) -> Sent
     Sent {
         at: c.b,
         due: c.c,
-        probe_id: low(c.a),
+        probe_id: low32(c.a),
         len: (c.d % 65536) as u16,
         used: true,
     }
@@ -43,13 +41,13 @@ fn probe_call(path: Liveness, c: Call) -> Called
     match op {
         0 => give(Liveness::new()),
         1 => {
-            let t = path.take_id(low(c.a));
+            let t = path.take_id(low32(c.a));
             let next = t.path;
             tell(next, t.id as u64)
         }
-        2 => of_sending(path.send(c.a, c.b, low(c.c), low(c.d))),
-        3 => of_answering(path.answer(low(c.a))),
-        _ => of_expiring(path.expire(c.a, odd(c.b), c.c)),
+        2 => of_outcome(path.send(c.a, c.b, low32(c.c), low32(c.d))),
+        3 => of_outcome(path.answer(low32(c.a))),
+        _ => of_outcome(path.expire(c.a, odd(c.b), c.c)),
     }
 }
 
@@ -73,11 +71,11 @@ fn size_call(path: Liveness, c: Call) -> Called
 {
     let op = c.op;
     match op {
-        10 => of_len(path, path.size(low(c.a))),
-        11 => of_doing(path.sample(c.a, c.b, c.c, c.d)),
+        10 => of_answer(path, path.size(low32(c.a))),
+        11 => of_outcome(path.sample(c.a, c.b, c.c, c.d)),
         12 => give(path.fold(odd(c.a))),
-        13 => of_proving(path.prove(low(c.a))),
-        _ => of_len(path, path.seek_size(low(c.a), c.b)),
+        13 => of_outcome(path.prove(low32(c.a))),
+        _ => of_answer(path, path.seek_size(low32(c.a), c.b)),
     }
 }
 
@@ -87,11 +85,11 @@ fn seek_call(path: Liveness, c: Call) -> Called
 {
     let op = c.op;
     match op {
-        15 => of_sending(path.seek_send(c.a, low(c.b), low(c.c))),
-        16 => of_sending(path.seek_ring(c.a, c.b, c.c, low(c.d), low(c.e))),
-        17 => of_settling(path.seek_answer(low(c.a), c.b)),
-        18 => of_raising(path.seek_proved(low(c.a), low(c.b), c.c)),
-        _ => of_judging(path.seek_judge(c.a, c.b, c.c)),
+        15 => of_outcome(path.seek_send(c.a, low32(c.b), low32(c.c))),
+        16 => of_outcome(path.seek_ring(c.a, c.b, c.c, low32(c.d), low32(c.e))),
+        17 => of_outcome(path.seek_answer(low32(c.a), c.b)),
+        18 => of_outcome(path.seek_proved(low32(c.a), low32(c.b), c.c)),
+        _ => of_outcome(path.seek_judge(c.a, c.b, c.c)),
     }
 }
 
@@ -105,7 +103,7 @@ fn stop_call(path: Liveness, c: Call) -> Called
         21 => give(path.spend(c.a)),
         22 => give(path.owe()),
         23 => give(path.rebase(c.a, odd(c.b))),
-        _ => of_time(path, path.timeout(c.a, c.b)),
+        _ => of_answer(path, path.timeout(c.a, c.b)),
     }
 }
 
@@ -115,16 +113,16 @@ fn time_call(path: Liveness, c: Call) -> Called
 {
     let op = c.op;
     match op {
-        25 => of_doing(path.heard(low(c.a), c.b)),
+        25 => of_outcome(path.heard(low32(c.a), c.b)),
         26 => give(path.carried(c.a)),
-        27 => of_doing(path.shed(low(c.a))),
+        27 => of_outcome(path.shed(low32(c.a))),
         28 => tell(path, base::flag::flag(path.stopped())),
         29 => tell_time(path, path.held()),
         _ => tell_time(path, path.recheck()),
     }
 }
 
-// Calls 31 to 36: what can be read off ring and round trips; any other is refused as 15.
+// Calls 31 to 36: what can be read off ring and round trips.
 fn read_call(path: Liveness, c: Call) -> Called
     ensures { λ r. ⌜ r ≡ readCall path c ⌝ }
 {
@@ -135,7 +133,37 @@ fn read_call(path: Liveness, c: Call) -> Called
         33 => tell_time(path, path.min_rtt()),
         34 => tell_time(path, path.max_rtt()),
         35 => tell_time(path, path.base_rtt()),
-        36 => tell_time(path, path.earliest_due()),
+        _ => tell_time(path, path.earliest_due()),
+    }
+}
+
+// Calls 37 to 42: the scores, and what they are made of.
+fn score_call(path: Liveness, c: Call) -> Called
+    ensures { λ r. ⌜ r ≡ scoreCall path c ⌝ }
+{
+    let op = c.op;
+    match op {
+        37 => tell_score(path, scores::score(path)),
+        38 => tell_score(path, scores::steady(path)),
+        39 => tell(path, path.misses() as u64),
+        40 => tell_time(path, path.rtt()),
+        41 => tell(path, image::words::etx_bits(path.etx())),
+        _ => tell_len(path, path.mtu()),
+    }
+}
+
+// Calls 43 to 48: the counts, the clocks and whether an answer matches; any other is refused as 15.
+fn count_call(path: Liveness, c: Call) -> Called
+    ensures { λ r. ⌜ r ≡ countCall path c ⌝ }
+{
+    let op = c.op;
+    match op {
+        43 => tell(path, path.frames() as u64),
+        44 => tell(path, path.bytes() as u64),
+        45 => tell_time(path, path.heard_at()),
+        46 => tell_time(path, path.data_at()),
+        47 => tell_time(path, path.quiet()),
+        48 => of_matching(path.answer(low32(c.a))),
         _ => no_kind(path),
     }
 }
@@ -150,7 +178,13 @@ fn high_call(path: Liveness, c: Call) -> Called
     if c.op < 31 {
         return time_call(path, c);
     }
-    read_call(path, c)
+    if c.op < 37 {
+        return read_call(path, c);
+    }
+    if c.op < 43 {
+        return score_call(path, c);
+    }
+    count_call(path, c)
 }
 
 // Carries out one call on a path.

@@ -4,6 +4,7 @@ ghost use lib.ListN.{length};
 ghost use Rattle.script.specs.Run.{callFrom, scriptNumber, scriptOut};
 use crate::calls::call;
 use crate::types::*;
+use base::types::Refusal;
 use live::types::Liveness;
 
 // The call whose six numbers stand at the front of the bytes.
@@ -25,13 +26,13 @@ pub fn run_script(script: &[u8], out: &mut [u8]) -> u64
     ensures { λ r. ⌜ (r ≡ scriptNumber (now (script .entry)) (length (now (out .entry)))) × (now (out .exit) ≡ scriptOut (now (script .entry)) (now (out .entry))) ⌝ }
 {
     if script.len() % 48 != 0 {
-        return 13;
+        return Refusal::Cut.number();
     }
     if out.len() < 1800 {
-        return 16;
+        return Refusal::Lent.number();
     }
     if out.len() - 1800 < script.len() {
-        return 16;
+        return Refusal::Lent.number();
     }
     let mut path = Liveness::new();
     let mut at = 0;

@@ -1,8 +1,8 @@
 -- The size search of a path (document 01, "Size search"): the rules of specs/Rules.antt with the clock and the identifiers.
-use mathlib.Core.Bool.{Bool, true, false, not, _&&_}
+use mathlib.Core.Bool.{Bool, true, false, not, cond, _&&_}
 use Prim.Native.Nat.{ℕ, min}
 use lib.Dec.{leb, eqb}
-use Rattle.base.specs.Seq.{pick}
+use Rattle.base.specs.Limits.{minLen}
 use Rattle.base.specs.Serial.{afterOf}
 use Rattle.base.specs.Time.{deadlineOf}
 use Rattle.base.specs.declared.types.MaybeId.{MaybeId}
@@ -11,7 +11,7 @@ use Rattle.base.specs.declared.types.MaybeLen.{MaybeLen}
 use Rattle.base.specs.declared.types.MaybeLen.the-variants as len
 use Rattle.base.specs.declared.types.MaybeTime.{MaybeTime}
 use Rattle.base.specs.declared.types.MaybeTime.the-variants as time
-use Rattle.seek.specs.Rules.{proposalOf, risesOf, raisedOf, lowerOf, ackedOf, knownOf, closeOf, clearedOf}
+use Rattle.seek.specs.Rules.{proposalOf, risesOf, raisedOf, lostWith, ackedOf, knownOf, closeOf, clearedOf}
 use Rattle.seek.specs.declared.types.Seek.{Seek}
 use Rattle.seek.specs.declared.types.Sizes.{Sizes}
 use Rattle.seek.specs.declared.types.Settled.{Settled}
@@ -44,20 +44,20 @@ proposeOf lost len.None full = len.None
 proposeOf lost (len.Some proven) full = proposalOf lost proven full
 
 -- "A proposal needs no search probe out, now not before the next try, and proven < full."
-unfoldable pub seekSizeOf : Sizes → ℕ → ℕ → MaybeLen
-seekSizeOf s full now =
-    pick (eqb (s .seek .len) 0 && mayTry (s .seek .at) now) (proposeOf (s .seek .lost) (s .proven) full) len.None
+unfoldable pub searchSize : Sizes → ℕ → ℕ → MaybeLen
+searchSize s full now =
+    cond (eqb (s .seek .len) 0 && mayTry (s .seek .at) now) (proposeOf (s .seek .lost) (s .proven) full) len.None
 
 -- ---- sending
 
 -- a search probe of so many bytes is out, sent at this instant under this identifier
-unfoldable pub seekSendOf : Sizes → ℕ → ℕ → ℕ → Sizes
-seekSendOf s at n probe =
+unfoldable pub sentSearch : Sizes → ℕ → ℕ → ℕ → Sizes
+sentSearch s at n probe =
     withSearch s (record { at = time.Some at; «probe_id» = probe; len = n; lost = s .seek .lost })
 
 -- a search probe that is held in the ring: only the next try moves, to `deadline`(at, gap)
-unfoldable pub seekNextOf : Sizes → ℕ → ℕ → Sizes
-seekNextOf s at gap = withSearch s (withSeek (s .seek) (time.Some (deadlineOf 64 at gap)) (s .seek .len) (s .seek .lost))
+unfoldable pub nextSearch : Sizes → ℕ → ℕ → Sizes
+nextSearch s at gap = withSearch s (withSeek (s .seek) (time.Some (deadlineOf 64 at gap)) (s .seek .len) (s .seek .lost))
 
 -- ---- an acknowledgement
 
@@ -71,9 +71,9 @@ abbrev pub settledOf : Seek → ℕ → Seek
 settledOf s gap = withSeek s (laterOf (s .at) gap) 0 (s .lost)
 
 -- "An acknowledgement settles the probe", if a search probe is out and has this identifier
-unfoldable pub seekAnswerOf : Sizes → ℕ → ℕ → Settled
-seekAnswerOf s probe gap =
-    pick (not (eqb (s .seek .len) 0) && eqb (s .seek .«probe_id») probe)
+unfoldable pub settledSearch : Sizes → ℕ → ℕ → Settled
+settledSearch s probe gap =
+    cond (not (eqb (s .seek .len) 0) && eqb (s .seek .«probe_id») probe)
     (record { sizes = withSearch s (settledOf (s .seek) gap); len = len.Some (s .seek .len) })
     (record { sizes = s; len = len.None })
 
@@ -84,21 +84,21 @@ raiseGap = 600000000000
 -- "After either, if lost is held and lost <= proven + 32 it is cleared and the next try is now + 600 s."
 abbrev pub endOf : Seek → ℕ → ℕ → Seek
 endOf s proven now =
-    withSeek s (pick (closeOf (s .lost) proven) (time.Some (deadlineOf 64 now raiseGap)) (s .at)) (s .len) (clearedOf (s .lost) proven)
+    withSeek s (cond (closeOf (s .lost) proven) (time.Some (deadlineOf 64 now raiseGap)) (s .at)) (s .len) (clearedOf (s .lost) proven)
 
 -- "Lost keeps the smaller size. After either, .."
 abbrev pub loseOf : Seek → ℕ → ℕ → ℕ → Seek
-loseOf s proven n now = endOf (withSeek s (s .at) (s .len) (lowerOf (s .lost) n)) proven now
+loseOf s proven n now = endOf (withSeek s (s .at) (s .len) (lostWith (s .lost) n)) proven now
 
 -- "proven rises to the smaller of sent and acked if that is above 27 and above proven. Acked < sent also loses the sent size." After it
 -- the clearing, with the new proven size
-unfoldable pub seekProvedOf : Sizes → ℕ → ℕ → ℕ → Proved
-seekProvedOf s sent acked now =
-    let proven = raisedOf 27 (s .proven) (min sent acked) in
+unfoldable pub ackedSearch : Sizes → ℕ → ℕ → ℕ → Proved
+ackedSearch s sent acked now =
+    let proven = raisedOf minLen (s .proven) (min sent acked) in
     record {
-      raised = risesOf 27 (s .proven) (min sent acked);
+      raised = risesOf minLen (s .proven) (min sent acked);
       sizes = record {
-        seek = endOf (withSeek (s .seek) (s .seek .at) (s .seek .len) (ackedOf (s .seek .lost) sent acked)) (knownOf 27 proven) now;
+        seek = endOf (withSeek (s .seek) (s .seek .at) (s .seek .len) (ackedOf (s .seek .lost) sent acked)) (knownOf minLen proven) now;
         proven = proven;
       };
     }
@@ -121,10 +121,10 @@ dropOf s proven now gap =
     record { lost = true; sizes = withSearch s (loseOf (settledOf (s .seek) gap) proven (s .seek .len) now) }
 
 -- "Judging loses it once .."; else nothing changes
-unfoldable pub seekJudgeOf : Sizes → MaybeId → ℕ → ℕ → ℕ → Judged
-seekJudgeOf s answered now timeout gap =
-    pick (judgesOf (s .seek) (s .seek .at) answered now timeout)
-    (dropOf s (knownOf 27 (s .proven)) now gap)
+unfoldable pub judgedSearch : Sizes → MaybeId → ℕ → ℕ → ℕ → Judged
+judgedSearch s answered now timeout gap =
+    cond (judgesOf (s .seek) (s .seek .at) answered now timeout)
+    (dropOf s (knownOf minLen (s .proven)) now gap)
     (record { lost = false; sizes = s })
 
 -- ---- the proven size
@@ -135,9 +135,9 @@ differs len.None n = true
 differs (len.Some m) n = not (eqb m n)
 
 -- the Rust's `prove`: the size is proven, all else stays
-abbrev pub proveOf : Sizes → ℕ → Proving
-proveOf s n = record { changed = differs (s .proven) n; sizes = record { seek = s .seek; proven = len.Some n } }
+abbrev pub provenSizes : Sizes → ℕ → Proving
+provenSizes s n = record { changed = differs (s .proven) n; sizes = record { seek = s .seek; proven = len.Some n } }
 
 -- "`fresh` .. clears seek .., not the proven size"
-abbrev pub freshOf : Sizes → Sizes
-freshOf s = withSearch s newSeek
+abbrev pub freshSizes : Sizes → Sizes
+freshSizes s = withSearch s newSeek

@@ -1,8 +1,12 @@
 // The sizes that a probing path steps down, once a probe above the smallest size has lapsed.
 ghost use mathlib.Core.Path.{_≡_};
-ghost use Rattle.seek.specs.Ladder.{fitsOf, rungOf, sizeOf};
+ghost use Rattle.seek.specs.Ladder.{fitsOf, rungOf, ladderSize};
 use crate::types::*;
+use base::limits::PATH_PROBE_MIN_SIZE;
 use base::types::*;
+
+// The steps of the ladder below full, 3/4 and 1/2: the numerator and the denominator of each.
+const LADDER: [u32; 4] = [3, 4, 1, 2];
 
 // Whether a size is below the last one and above the smallest.
 fn fits(len: u16, last: u16) -> bool
@@ -21,11 +25,11 @@ pub fn rung(full: u16, last: u16) -> u16
     if fits(full, last) {
         return full;
     }
-    let most = ((full as u32) * 3 / 4) as u16;
+    let most = ((full as u32) * LADDER[0] / LADDER[1]) as u16;
     if fits(most, last) {
         return most;
     }
-    let half = full / 2;
+    let half = ((full as u32) * LADDER[2] / LADDER[3]) as u16;
     if fits(half, last) {
         return half;
     }
@@ -34,7 +38,7 @@ pub fn rung(full: u16, last: u16) -> u16
 
 // The size of the next probe: full unless fallen with a last size.
 pub fn size(l: Ladder, full: u16) -> u16
-    ensures { λ r. ⌜ r ≡ sizeOf l full ⌝ }
+    ensures { λ r. ⌜ r ≡ ladderSize l full ⌝ }
 {
     if !l.fallen {
         return full;

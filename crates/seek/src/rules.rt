@@ -1,8 +1,9 @@
 // The search's rules on sizes alone: no clock and no identifiers.
 ghost use mathlib.Core.Path.{_≡_};
-ghost use Prim.Native.Nat.{min};
-ghost use Rattle.seek.specs.Rules.{proposalOf, lowerOf, knownOf, risesOf, raisedOf, closeOf};
+ghost use Rattle.base.specs.Limits.{minLen};
+ghost use Rattle.seek.specs.Rules.{proposalOf, lostWith, knownOf, risesOf, raisedOf, closeOf};
 use crate::types::*;
+use base::limits::PATH_PROBE_MIN_SIZE;
 use base::types::*;
 
 // The next size to try: full with none lost, else halfway between proven and lost; none once they are close, or full is proven.
@@ -21,26 +22,19 @@ pub fn proposal(lost: u16, proven: u16, full: u16) -> MaybeLen
     MaybeLen::None
 }
 
-// The smaller of two sizes.
-pub fn smaller(a: u16, b: u16) -> u16
-    ensures { λ r. ⌜ r ≡ min a b ⌝ }
-{
-    if b < a { b } else { a }
-}
-
 // The lost size once `len` is lost too: the smaller.
 pub fn lose(lost: u16, len: u16) -> u16
-    ensures { λ r. ⌜ r ≡ lowerOf lost len ⌝ }
+    ensures { λ r. ⌜ r ≡ lostWith lost len ⌝ }
 {
     if lost == 0 {
         return len;
     }
-    smaller(lost, len)
+    base::num::min_u16(lost, len)
 }
 
 // What counts as proven: the smallest size where nothing is.
 pub fn known(proven: MaybeLen) -> u16
-    ensures { λ r. ⌜ r ≡ knownOf 27 proven ⌝ }
+    ensures { λ r. ⌜ r ≡ knownOf minLen proven ⌝ }
 {
     let MaybeLen::Some(len) = proven else {
         return PATH_PROBE_MIN_SIZE;
@@ -50,7 +44,7 @@ pub fn known(proven: MaybeLen) -> u16
 
 // Whether an acknowledgement at this size raises the proven one.
 pub fn rises(proven: MaybeLen, size: u16) -> bool
-    ensures { λ r. ⌜ r ≡ risesOf 27 proven size ⌝ }
+    ensures { λ r. ⌜ r ≡ risesOf minLen proven size ⌝ }
 {
     let MaybeLen::Some(len) = proven else {
         return size > PATH_PROBE_MIN_SIZE;
@@ -60,7 +54,7 @@ pub fn rises(proven: MaybeLen, size: u16) -> bool
 
 // The proven size after an acknowledgement at this size.
 pub fn raise(proven: MaybeLen, size: u16) -> MaybeLen
-    ensures { λ r. ⌜ r ≡ raisedOf 27 proven size ⌝ }
+    ensures { λ r. ⌜ r ≡ raisedOf minLen proven size ⌝ }
 {
     if rises(proven, size) {
         return MaybeLen::Some(size);

@@ -1,15 +1,16 @@
 // The upward size search of a live path: proposal, sending, acknowledgement and judgement.
 ghost use mathlib.Core.Path.{_≡_};
-ghost use Rattle.seek.specs.Search.{seekSizeOf, seekSendOf, seekNextOf, laterOf, settledOf, endOf, loseOf, seekAnswerOf, seekProvedOf, lostNow, dropOf, seekJudgeOf, proveOf, freshOf};
+ghost use Rattle.seek.specs.Search.{searchSize, sentSearch, nextSearch, laterOf, settledOf, endOf, loseOf, settledSearch, ackedSearch, lostNow, dropOf, judgedSearch, provenSizes, freshSizes};
 use crate::rules::*;
 use crate::types::*;
+use base::limits::PATH_PROBE_MIN_SIZE;
 use base::serial::after;
 use base::time::deadline;
 use base::types::*;
 
 // The length of the next search probe, if one may go now.
 pub fn seek_size(s: Sizes, full: u16, now: u64) -> MaybeLen
-    ensures { λ r. ⌜ r ≡ seekSizeOf s full now ⌝ }
+    ensures { λ r. ⌜ r ≡ searchSize s full now ⌝ }
 {
     let seek = s.seek;
     if seek.len != 0 {
@@ -31,7 +32,7 @@ pub fn seek_size(s: Sizes, full: u16, now: u64) -> MaybeLen
 
 // A search probe of `len` bytes is out from `at` on, under this identifier.
 pub fn seek_send(s: Sizes, at: u64, len: u16, id: u32) -> Sizes
-    ensures { λ r. ⌜ r ≡ seekSendOf s at len id ⌝ }
+    ensures { λ r. ⌜ r ≡ sentSearch s at len id ⌝ }
 {
     let old = s.seek;
     let proven = s.proven;
@@ -49,7 +50,7 @@ pub fn seek_send(s: Sizes, at: u64, len: u16, id: u32) -> Sizes
 
 // The next search probe may go `gap` after `at`; all else stays. For a search probe that is held in the ring.
 pub fn seek_next(s: Sizes, at: u64, gap: u64) -> Sizes
-    ensures { λ r. ⌜ r ≡ seekNextOf s at gap ⌝ }
+    ensures { λ r. ⌜ r ≡ nextSearch s at gap ⌝ }
 {
     let old = s.seek;
     let proven = s.proven;
@@ -120,7 +121,7 @@ fn lose_size(seek: Seek, proven: u16, len: u16, now: u64) -> Seek
 
 // Settles the search probe if the identifier is that of the one out.
 pub fn seek_answer(s: Sizes, id: u32, gap: u64) -> Settled
-    ensures { λ r. ⌜ r ≡ seekAnswerOf s id gap ⌝ }
+    ensures { λ r. ⌜ r ≡ settledSearch s id gap ⌝ }
 {
     let seek = s.seek;
     let proven = s.proven;
@@ -142,11 +143,11 @@ pub fn seek_answer(s: Sizes, id: u32, gap: u64) -> Settled
 
 // An acknowledgement of `acked` bytes for a search probe of `sent`.
 pub fn seek_proved(s: Sizes, sent: u16, acked: u16, now: u64) -> Proved
-    ensures { λ r. ⌜ r ≡ seekProvedOf s sent acked now ⌝ }
+    ensures { λ r. ⌜ r ≡ ackedSearch s sent acked now ⌝ }
 {
     let seek = s.seek;
     let old = s.proven;
-    let size = smaller(sent, acked);
+    let size = base::num::min_u16(sent, acked);
     let raised = rises(old, size);
     let proven = raise(old, size);
     if acked < sent {
@@ -198,7 +199,7 @@ fn drop_out(s: Sizes, proven: u16, now: u64, gap: u64) -> Judged
 
 // Judges the search probe that is out: it is lost, or it waits.
 pub fn seek_judge(s: Sizes, answered: MaybeId, now: u64, timeout: u64, gap: u64) -> Judged
-    ensures { λ r. ⌜ r ≡ seekJudgeOf s answered now timeout gap ⌝ }
+    ensures { λ r. ⌜ r ≡ judgedSearch s answered now timeout gap ⌝ }
 {
     let seek = s.seek;
     let waits = Judged {
@@ -221,7 +222,7 @@ pub fn seek_judge(s: Sizes, answered: MaybeId, now: u64, timeout: u64, gap: u64)
 
 // Takes `len` bytes as proven, by a probe of the ring.
 pub fn prove(s: Sizes, len: u16) -> Proving
-    ensures { λ r. ⌜ r ≡ proveOf s len ⌝ }
+    ensures { λ r. ⌜ r ≡ provenSizes s len ⌝ }
 {
     let seek = s.seek;
     let old = s.proven;
@@ -243,7 +244,7 @@ pub fn prove(s: Sizes, len: u16) -> Proving
 
 // The search starts afresh; the proven size stays.
 pub fn fresh_sizes(s: Sizes) -> Sizes
-    ensures { λ r. ⌜ r ≡ freshOf s ⌝ }
+    ensures { λ r. ⌜ r ≡ freshSizes s ⌝ }
 {
     let stays = s.proven;
     Sizes {

@@ -1,10 +1,8 @@
 // The state of the size search and of the ladder, and what the search's steps answer.
 ghost use mathlib.Core.Path.{_≡_};
 ghost use Rattle.seek.specs.Search.{newSeek};
+use base::limits::PATH_PROBE_MIN_SIZE;
 use base::types::*;
-
-// The smallest size of a probe: what is proven lies above it or is it.
-pub const PATH_PROBE_MIN_SIZE: u16 = 27;
 
 // The search ends once the largest size proven and the smallest lost lie within so many bytes.
 pub const SEEK_STEP: u32 = 32;

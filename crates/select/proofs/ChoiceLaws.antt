@@ -3,13 +3,13 @@
 -- Assumes nothing.
 use Prim.Native.Nat.{ℕ, zero, suc, _+_, max, _<_, _≤_}
 use mathlib.Core.Path.{_≡_, refl, ap, sym, _∙_}
-use mathlib.Core.Bool.{Bool, true, false, not, _&&_, _||_}
+use mathlib.Core.Bool.{Bool, true, false, not, cond, _&&_, _||_}
 use mathlib.Core.List.{List, [], _∷_, map, foldl}
 use native.Mathlib.Omega.{arith}
 use lib.Dec.{eqb, leb}
 use lib.ListN.{length, getD}
 use lib.Ieee.{Float, binary64, mul}
-use Rattle.base.specs.Seq.{pick, every, keep}
+use Rattle.base.specs.Seq.{every, keep}
 use Rattle.base.proofs.Cases.{on-flag, on-order, never}
 use borrow.Author.Tests.{le-leb, eqb-true, eq-eqb, not-true}
 use Rattle.base.proofs.ScanLaws.{every-of}
@@ -301,14 +301,14 @@ slot-is None n e g = never {t = false} (ap isSlot e) refl
 accepted : {C : Type 0} (l : List Rival) (margin : Float) (n : ℕ) → chooseOf l margin ≡ chosen.Slot n → (placed 0 l ≡ true → slotOf (pickedOf l margin) ≡ chosen.Slot n → C) → C
 unfolding chooseOf
 accepted l margin n e g =
-    let rest : Chosen = pick (not (placed 0 l)) (chosen.Refused Index) (slotOf (pickedOf l margin)) in
+    let rest : Chosen = cond (not (placed 0 l)) (chosen.Refused Index) (slotOf (pickedOf l margin)) in
     on-flag (isLongHeld l)
-    (λ f. never {t = false} (ap isSlot (sym (ap (λ (b : Bool). pick b (chosen.Refused Duration) rest) f) ∙ e)) refl)
+    (λ f. never {t = false} (ap isSlot (sym (ap (λ (b : Bool). cond b (chosen.Refused Duration) rest) f) ∙ e)) refl)
     (λ f.
-    let d : rest ≡ chosen.Slot n = sym (ap (λ (b : Bool). pick b (chosen.Refused Duration) rest) f) ∙ e in
+    let d : rest ≡ chosen.Slot n = sym (ap (λ (b : Bool). cond b (chosen.Refused Duration) rest) f) ∙ e in
     on-flag (placed 0 l)
-    (λ p. g p (sym (ap (λ (b : Bool). pick (not b) (chosen.Refused Index) (slotOf (pickedOf l margin))) p) ∙ d))
-    (λ p. never {t = false} (ap isSlot (sym (ap (λ (b : Bool). pick (not b) (chosen.Refused Index) (slotOf (pickedOf l margin))) p) ∙ d)) refl))
+    (λ p. g p (sym (ap (λ (b : Bool). cond (not b) (chosen.Refused Index) (slotOf (pickedOf l margin))) p) ∙ d))
+    (λ p. never {t = false} (ap isSlot (sym (ap (λ (b : Bool). cond (not b) (chosen.Refused Index) (slotOf (pickedOf l margin))) p) ∙ d)) refl))
 
 -- at the slot that `choose` answers stands a held rival, pinned if any is, of the highest tier of those, fitting if any of these fits
 pub chosen-taken : (l : List Rival) (margin : Float) (n : ℕ) → chooseOf l margin ≡ chosen.Slot n → Taken l (getD l n noRival)
@@ -350,7 +350,7 @@ nothing (Some r) e = never {t = true} refl e
 pub empty-none : (l : List Rival) (margin : Float) → noneIs (λ r. r .held) l ≡ true → chooseOf l margin ≡ chosen.Refused NoPath
 unfolding chooseOf
 empty-none l margin e =
-    ap (λ (m : List Rival). pick (not (noneIs isLong m)) (chosen.Refused Duration) (pick (not (placed 0 l)) (chosen.Refused Index) (slotOf (pickedOf l margin))))
+    ap (λ (m : List Rival). cond (not (noneIs isLong m)) (chosen.Refused Duration) (cond (not (placed 0 l)) (chosen.Refused Index) (slotOf (pickedOf l margin))))
     (empty-rivals l e)
-    ∙ ap (λ (b : Bool). pick (not b) (chosen.Refused Index) (slotOf (pickedOf l margin))) (empty-placed l 0 e)
+    ∙ ap (λ (b : Bool). cond (not b) (chosen.Refused Index) (slotOf (pickedOf l margin))) (empty-placed l 0 e)
     ∙ nothing (pickedOf l margin) (picked-there l margin ∙ ap not e)

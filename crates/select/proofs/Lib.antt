@@ -1,6 +1,5 @@
 -- What the proofs of the functions share, and the laws of the choice.
 mod PlaceLaws
-mod KeepLaws
 mod RankLaws
 mod PickLaws
 pub mod ChoiceLaws

@@ -1,13 +1,13 @@
 -- What `picked`, `choose` and `best` ask: their branches are the definition's.
 -- Assumes nothing.
 use mathlib.Core.Path.{_≡_, refl, ap, sym, _∙_}
-use mathlib.Core.Bool.{Bool, true, false, not}
+use mathlib.Core.Bool.{Bool, true, false, not, cond}
 use mathlib.Core.List.{List}
 use lib.Ieee.{Float}
-use Rattle.base.specs.Seq.{pick, every}
+use Rattle.base.specs.Seq.{every}
 use Rattle.base.specs.declared.types.Refusal.the-variants.{Duration, Index, NoPath}
 use Rattle.select.specs.Rivals.{placed, byScore, byMedium, byTrip}
-use Rattle.select.specs.Choice.{rankedOf, limitOf, firstBy, orElse, scoredOf, nearOf, preferredOf, quickOf, quickest, amongScored, amongRanked, pickedOf, isLongHeld, slotOf, chooseOf, scoreOf, bestOf}
+use Rattle.select.specs.Choice.{rankedOf, limitOf, firstBy, orElse, scoredOf, nearOf, preferredOf, quickOf, quickest, amongScored, amongRanked, pickedOf, isLongHeld, slotOf, chooseOf, bestScore, bestOf}
 use Rattle.select.specs.Scans.{lacksOf, gateOf, scanOf}
 use Rattle.select.specs.declared.types.Rival.{Rival}
 use Rattle.select.specs.declared.types.Gate.{Gate}
@@ -83,39 +83,39 @@ module _ (l : List Rival) where
     pub choose-long : every (lacksOf test.Long) l ≡ false → chosen.Refused Duration ≡ chooseOf l margin
     unfolding chooseOf
     choose-long e =
-        sym (ap (λ (b : Bool). pick b (chosen.Refused Duration) (pick (not (placed 0 l)) (chosen.Refused Index) (slotOf (pickedOf l margin)))) (long-not e))
+        sym (ap (λ (b : Bool). cond b (chosen.Refused Duration) (cond (not (placed 0 l)) (chosen.Refused Index) (slotOf (pickedOf l margin)))) (long-not e))
 
     pub choose-index : every (lacksOf test.Long) l ≡ true → placed 0 l ≡ false → chosen.Refused Index ≡ chooseOf l margin
     unfolding chooseOf
     choose-index e p =
         sym
-        (ap (λ (b : Bool). pick b (chosen.Refused Duration) (pick (not (placed 0 l)) (chosen.Refused Index) (slotOf (pickedOf l margin)))) (long-none e)
-        ∙ ap (λ (b : Bool). pick (not b) (chosen.Refused Index) (slotOf (pickedOf l margin))) p)
+        (ap (λ (b : Bool). cond b (chosen.Refused Duration) (cond (not (placed 0 l)) (chosen.Refused Index) (slotOf (pickedOf l margin)))) (long-none e)
+        ∙ ap (λ (b : Bool). cond (not b) (chosen.Refused Index) (slotOf (pickedOf l margin))) p)
 
     pub choose-slot : {k x : MaybeRival} → every (lacksOf test.Long) l ≡ true → placed 0 l ≡ true → k ≡ pickedOf l margin → k ≡ x → slotOf x ≡ chooseOf l margin
     unfolding chooseOf
     choose-slot {k} {x} e p f h =
         sym
-        (ap (λ (b : Bool). pick b (chosen.Refused Duration) (pick (not (placed 0 l)) (chosen.Refused Index) (slotOf (pickedOf l margin)))) (long-none e)
-        ∙ ap (λ (b : Bool). pick (not b) (chosen.Refused Index) (slotOf (pickedOf l margin))) p
+        (ap (λ (b : Bool). cond b (chosen.Refused Duration) (cond (not (placed 0 l)) (chosen.Refused Index) (slotOf (pickedOf l margin)))) (long-none e)
+        ∙ ap (λ (b : Bool). cond (not b) (chosen.Refused Index) (slotOf (pickedOf l margin))) p
         ∙ ap slotOf (sym f ∙ h))
 
   pub best-long : every (lacksOf test.Long) l ≡ false → best.Refused Duration ≡ bestOf l
   unfolding bestOf
   best-long e =
-      sym (ap (λ (b : Bool). pick b (best.Refused Duration) (pick (not (placed 0 l)) (best.Refused Index) (scoreOf (firstBy byScore (scoredOf (rankedOf l)))))) (long-not e))
+      sym (ap (λ (b : Bool). cond b (best.Refused Duration) (cond (not (placed 0 l)) (best.Refused Index) (bestScore (firstBy byScore (scoredOf (rankedOf l)))))) (long-not e))
 
   pub best-index : every (lacksOf test.Long) l ≡ true → placed 0 l ≡ false → best.Refused Index ≡ bestOf l
   unfolding bestOf
   best-index e p =
       sym
-      (ap (λ (b : Bool). pick b (best.Refused Duration) (pick (not (placed 0 l)) (best.Refused Index) (scoreOf (firstBy byScore (scoredOf (rankedOf l)))))) (long-none e)
-      ∙ ap (λ (b : Bool). pick (not b) (best.Refused Index) (scoreOf (firstBy byScore (scoredOf (rankedOf l))))) p)
+      (ap (λ (b : Bool). cond b (best.Refused Duration) (cond (not (placed 0 l)) (best.Refused Index) (bestScore (firstBy byScore (scoredOf (rankedOf l)))))) (long-none e)
+      ∙ ap (λ (b : Bool). cond (not b) (best.Refused Index) (bestScore (firstBy byScore (scoredOf (rankedOf l))))) p)
 
-  pub best-score : {g : Gate} {k x : MaybeRival} → every (lacksOf test.Long) l ≡ true → placed 0 l ≡ true → g ≡ gateOf l → k ≡ scanOf (Scored g) l → k ≡ x → scoreOf x ≡ bestOf l
+  pub best-score : {g : Gate} {k x : MaybeRival} → every (lacksOf test.Long) l ≡ true → placed 0 l ≡ true → g ≡ gateOf l → k ≡ scanOf (Scored g) l → k ≡ x → bestScore x ≡ bestOf l
   unfolding bestOf
   best-score {g} {k} {x} e p i f h =
       sym
-      (ap (λ (b : Bool). pick b (best.Refused Duration) (pick (not (placed 0 l)) (best.Refused Index) (scoreOf (firstBy byScore (scoredOf (rankedOf l)))))) (long-none e)
-      ∙ ap (λ (b : Bool). pick (not b) (best.Refused Index) (scoreOf (firstBy byScore (scoredOf (rankedOf l))))) p
-      ∙ ap scoreOf (first-is l i f ∙ h))
+      (ap (λ (b : Bool). cond b (best.Refused Duration) (cond (not (placed 0 l)) (best.Refused Index) (bestScore (firstBy byScore (scoredOf (rankedOf l)))))) (long-none e)
+      ∙ ap (λ (b : Bool). cond (not b) (best.Refused Index) (bestScore (firstBy byScore (scoredOf (rankedOf l))))) p
+      ∙ ap bestScore (first-is l i f ∙ h))

@@ -2,11 +2,11 @@
 -- Assumes nothing.
 use Prim.Native.Nat.{ℕ}
 use mathlib.Core.Path.{_≡_, refl, ap, sym, _∙_}
-use mathlib.Core.Bool.{Bool, true, false, not, _&&_, _||_}
+use mathlib.Core.Bool.{Bool, true, false, not, cond, _&&_, _||_}
 use mathlib.Core.List.{List}
 use lib.Dec.{eqb}
 use lib.Ieee.{Float, le}
-use Rattle.base.specs.Seq.{pick, every, keep}
+use Rattle.base.specs.Seq.{every, keep}
 use Rattle.base.proofs.Cases.{on-flag}
 use Rattle.select.specs.Media.{quickerOf}
 use Rattle.select.specs.Rivals.{isLong, byScore, byMedium, byTrip}
@@ -16,7 +16,7 @@ use Rattle.select.specs.declared.types.Rival.{Rival}
 use Rattle.select.specs.declared.types.Medium.{Medium}
 use Rattle.select.specs.declared.types.Test.the-variants as test
 use Rattle.select.specs.declared.types.Want.the-variants.{Scored, Preferred, Quicker, Timed}
-use Rattle.select.proofs.KeepLaws.{keep-same, keep-keep, none-keep, only-keep}
+use Rattle.base.proofs.KeepLaws.{keep-same, keep-keep, none-keep, only-keep}
 
 -- 6 over the held rivals
 pub long-is : (l : List Rival) → isLongHeld l ≡ not (every (lacksOf test.Long) l)
@@ -25,7 +25,7 @@ long-is l = ap not (none-keep isLong (λ (r : Rival). r .held) l)
 -- those that the pins leave
 named-is : (l : List Rival) → namedOf l ≡ keep (isNamed (not (every (lacksOf test.Pinned) l))) l
 named-is l =
-    ap (λ (n : Bool). pick n (rivalsOf l) (keep (λ (r : Rival). r .pinned) (rivalsOf l))) (none-keep (λ (r : Rival). r .pinned) (λ (r : Rival). r .held) l)
+    ap (λ (n : Bool). cond n (rivalsOf l) (keep (λ (r : Rival). r .pinned) (rivalsOf l))) (none-keep (λ (r : Rival). r .pinned) (λ (r : Rival). r .held) l)
     ∙ only-keep (λ (r : Rival). r .pinned) (λ (r : Rival). r .held) (every (lacksOf test.Pinned) l) l
 
 -- of a list kept by a test, the highest tier, and of it the fitting, if any
@@ -35,7 +35,7 @@ fit-is q l =
     let t : ℕ = highestOf (keep q l) in
     let h : Rival → Bool = λ r. q r && eqb (r .tier) t in
     ap (λ (m : List Rival). onlyAny (λ (r : Rival). r .fits) m) (keep-keep (λ (r : Rival). eqb (r .tier) t) q l)
-    ∙ ap (λ (n : Bool). pick n (keep h l) (keep (λ (r : Rival). r .fits) (keep h l))) (none-keep (λ (r : Rival). r .fits) h l)
+    ∙ ap (λ (n : Bool). cond n (keep h l) (keep (λ (r : Rival). r .fits) (keep h l))) (none-keep (λ (r : Rival). r .fits) h l)
     ∙ only-keep (λ (r : Rival). r .fits) h (every (λ (x : Rival). not (h x && x .fits)) l) l
 
 -- the ranked are those that the gate lets through

@@ -1,8 +1,7 @@
 -- The largest frame that a path carries (the Rust's `carried` and `heeded`, whose bodies are the definition), with the refusal 5.
 use Prim.Native.Nat.{ℕ, _+_, min}
-use mathlib.Core.Bool.{Bool, not}
-use lib.Dec.{ltb}
-use Rattle.base.specs.Seq.{pick}
+use mathlib.Core.Bool.{Bool, not, cond}
+use Rattle.base.specs.Limits.{isOverlong}
 use Rattle.base.specs.declared.types.Refusal.the-variants.{Length}
 use Rattle.select.specs.declared.types.MaybeSize.{MaybeSize}
 use Rattle.select.specs.declared.types.MaybeSize.the-variants.{None, Some}
@@ -19,13 +18,13 @@ heededOf oriented = not oriented
 
 -- the link's frame, or that of the proven size where it is smaller and heeded
 abbrev pub frameOf : ℕ → ℕ → Bool → ℕ
-frameOf link len oriented = pick (heededOf oriented) (min link (len + frameOverhead)) link
+frameOf link len oriented = cond (heededOf oriented) (min link (len + frameOverhead)) link
 
 -- 5 for a proven size above 65,535
 abbrev pub boundedBy : ℕ → MaybeSize → Bool → SizeAnswer
 boundedBy link None oriented = answers.Size link
-boundedBy link (Some len) oriented = pick (ltb 65535 len) (answers.Refused Length) (answers.Size (frameOf link len oriented))
+boundedBy link (Some len) oriented = cond (isOverlong len) (answers.Refused Length) (answers.Size (frameOf link len oriented))
 
 -- `carried`: 5 for a link's frame above 65,535
-unfoldable pub carriedOf : ℕ → MaybeSize → Bool → SizeAnswer
-carriedOf link proven oriented = pick (ltb 65535 link) (answers.Refused Length) (boundedBy link proven oriented)
+unfoldable pub carriedFrame : ℕ → MaybeSize → Bool → SizeAnswer
+carriedFrame link proven oriented = cond (isOverlong link) (answers.Refused Length) (boundedBy link proven oriented)

@@ -3,11 +3,11 @@
 -- quicker medium so near (preferred ones only, if one was picked), by medium, score, index. With no score: known RTT first, then RTT,
 -- index."
 use Prim.Native.Nat.{ℕ, max}
-use mathlib.Core.Bool.{Bool, not}
+use mathlib.Core.Bool.{Bool, not, cond}
 use mathlib.Core.List.{List, map, foldl}
 use lib.Dec.{eqb}
 use lib.Ieee.{Float, binary64, mul, le}
-use Rattle.base.specs.Seq.{pick, every, keep}
+use Rattle.base.specs.Seq.{every, keep}
 use Rattle.base.specs.declared.types.Refusal.the-variants.{Duration, Index, NoPath}
 use Rattle.select.specs.Media.{quickerOf}
 use Rattle.select.specs.Rivals.{isLong, placed, byScore, byMedium, byTrip}
@@ -28,7 +28,7 @@ noneIs p l = every (λ r. not (p r)) l
 
 -- if any passes a test, only those that pass
 abbrev pub onlyAny : (Rival → Bool) → List Rival → List Rival
-onlyAny p l = pick (noneIs p l) l (keep p l)
+onlyAny p l = cond (noneIs p l) l (keep p l)
 
 -- the rivals of a field
 abbrev pub rivalsOf : List Rival → List Rival
@@ -55,7 +55,7 @@ rankedOf field = onlyAny (λ r. r .fits) (highOf (namedOf field))
 -- the better of what there is and one more
 abbrev pub betterOf : (Rival → Rival → Bool) → MaybeRival → Rival → MaybeRival
 betterOf before None r = Some r
-betterOf before (Some a) r = pick (before r a) (Some r) (Some a)
+betterOf before (Some a) r = cond (before r a) (Some r) (Some a)
 
 -- the one that no later one comes before and that comes before each earlier one
 abbrev pub firstBy : (Rival → Rival → Bool) → List Rival → MaybeRival
@@ -120,18 +120,18 @@ slotOf None = chosen.Refused NoPath
 -- `choose`
 unfoldable pub chooseOf : List Rival → Float → Chosen
 chooseOf field margin =
-    pick (isLongHeld field)
+    cond (isLongHeld field)
     (chosen.Refused Duration)
-    (pick (not (placed 0 field)) (chosen.Refused Index) (slotOf (pickedOf field margin)))
+    (cond (not (placed 0 field)) (chosen.Refused Index) (slotOf (pickedOf field margin)))
 
 -- the score of what there is
-abbrev pub scoreOf : MaybeRival → BestAnswer
-scoreOf (Some r) = best.Score (r .score)
-scoreOf None = best.Unscored
+abbrev pub bestScore : MaybeRival → BestAnswer
+bestScore (Some r) = best.Score (r .score)
+bestScore None = best.Unscored
 
 -- `best`: the least score among the ranked
 unfoldable pub bestOf : List Rival → BestAnswer
 bestOf field =
-    pick (isLongHeld field)
+    cond (isLongHeld field)
     (best.Refused Duration)
-    (pick (not (placed 0 field)) (best.Refused Index) (scoreOf (firstBy byScore (scoredOf (rankedOf field)))))
+    (cond (not (placed 0 field)) (best.Refused Index) (bestScore (firstBy byScore (scoredOf (rankedOf field)))))

@@ -1,10 +1,10 @@
 -- What holds a change of the active path (the Rust's `held` and `waits`, whose bodies are the definition), and the hold on a link's
 -- cost (document 01, "Files and tail": "`Hold` holds before at + dwell or while a report of 2 is owed").
-use Prim.Native.Nat.{ℕ, _-_, _^_}
-use mathlib.Core.Bool.{Bool, not, _&&_, _||_}
-use lib.Dec.{leb, ltb}
+use Prim.Native.Nat.{ℕ, _-_}
+use mathlib.Core.Bool.{Bool, not, cond, _&&_, _||_}
+use lib.Dec.{ltb}
 use lib.Ieee.{Float, binary64, mul, lt, le}
-use Rattle.base.specs.Seq.{pick}
+use Rattle.base.specs.Limits.{isEndless}
 use Rattle.base.specs.Time.{deadlineOf}
 use Rattle.base.specs.declared.types.Refusal.the-variants.{Duration}
 use Rattle.select.specs.Media.{quickerOf}
@@ -32,7 +32,7 @@ beatsOf to from margin = to .scored && lt (mul binary64 (to .score) margin) (fro
 
 -- a flag as an answer
 abbrev pub heldIf : Bool → HeldAnswer
-heldIf on = pick on answers.Held answers.Free
+heldIf on = cond on answers.Held answers.Free
 
 -- 6: a round trip of 2 ^ 62 or more in either
 abbrev pub eitherLong : Rival → Rival → Bool
@@ -49,14 +49,14 @@ aboveOf to from margin = (from .steadied && to .scored) && lt (mul binary64 (fro
 -- `held`: a change on score waits while `from` has a score over the horizon and `to` is neither faster nor beats it
 unfoldable pub heldOf : Rival → Rival → Float → HeldAnswer
 heldOf to from margin =
-    pick (eitherLong to from)
+    cond (eitherLong to from)
     (answers.Refused Duration)
     (heldIf (staysOf to from margin))
 
 -- `waits`: a change for a quicker medium waits while the score of `to` is above margin times that of `from` over the horizon
 unfoldable pub waitsOf : Rival → Rival → Float → HeldAnswer
 waitsOf to from margin =
-    pick (eitherLong to from)
+    cond (eitherLong to from)
     (answers.Refused Duration)
     (heldIf (aboveOf to from margin))
 
@@ -75,4 +75,4 @@ holdsOf h now dwell = ltb now (deadlineOf 64 (h .at) dwell) || ltb 0 (h .owed)
 -- `Hold::held`: 6 for a dwell of 2 ^ 62 or more; the cost while the hold holds
 unfoldable pub costOf : Hold → ℕ → ℕ → CostAnswer
 costOf h now dwell =
-    pick (leb (2 ^ 62) dwell) (cost.Refused Duration) (pick (holdsOf h now dwell) (cost.Cost (h .cost)) cost.Over)
+    cond (isEndless dwell) (cost.Refused Duration) (cond (holdsOf h now dwell) (cost.Cost (h .cost)) cost.Over)

@@ -1,11 +1,11 @@
 -- Rivals and their orders (document 01, "Choice": "least score, then index, by totalOrder"; "by medium, score, index"; "known RTT
 -- first, then RTT, index"), and what the refusals 6 and 12 ask of a field of given rivals.
-use Prim.Native.Nat.{ℕ, suc, _^_}
-use mathlib.Core.Bool.{Bool, true, false, not, _&&_, _||_, Bool·beq}
+use Prim.Native.Nat.{ℕ, suc}
+use mathlib.Core.Bool.{Bool, true, false, not, cond, _&&_, _||_, Bool·beq}
 use mathlib.Core.List.{List, [], _∷_}
-use lib.Dec.{leb, ltb, eqb}
+use lib.Dec.{ltb, eqb}
 use lib.Ieee.{binary64, ofBits}
-use Rattle.base.specs.Seq.{pick}
+use Rattle.base.specs.Limits.{isEndless}
 use Rattle.total.specs.Values.{totalOf}
 use Rattle.select.specs.Media.{speedOf}
 use Rattle.select.specs.declared.types.Rival.{Rival}
@@ -34,7 +34,7 @@ noRival =
 
 -- 6: a duration of 2 ^ 62 or more, an RTT or base RTT that the rival has
 abbrev pub isLong : Rival → Bool
-isLong r = (r .timed && leb (2 ^ 62) (r .rtt)) || (r .based && leb (2 ^ 62) (r .base))
+isLong r = (r .timed && isEndless (r .rtt)) || (r .based && isEndless (r .base))
 
 -- 12: a rival's index is not its place. At its place, or no rival
 abbrev pub atPlace : ℕ → Rival → Bool
@@ -43,7 +43,7 @@ atPlace n r = not (r .held) || eqb (r .index) n
 -- each rival from place n on is at its place
 abbrev pub placed : ℕ → List Rival → Bool
 placed n [] = true
-placed n (r ∷ l) = pick (atPlace n r) (placed (suc n) l) false
+placed n (r ∷ l) = cond (atPlace n r) (placed (suc n) l) false
 
 -- ---- the orders: a comes before b
 
@@ -58,7 +58,7 @@ byMedium a b =
 
 -- the RTT, and 0 where it is not known
 abbrev pub tripOf : Rival → ℕ
-tripOf r = pick (r .timed) (r .rtt) 0
+tripOf r = cond (r .timed) (r .rtt) 0
 
 -- known RTT first, then RTT, index
 abbrev pub byTrip : Rival → Rival → Bool

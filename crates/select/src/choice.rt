@@ -25,7 +25,7 @@ fn limit(best: Rival, margin: f64) -> f64
 
 // A rival near the best over a quicker medium than that of `pick`, preferred ones only where `only` says so, else `pick`.
 fn replaced(
-    field: [Rival; 8],
+    field: [Rival; PATH_MAX_PER_PEER],
     g: Gate,
     best: Rival,
     margin: f64,
@@ -43,7 +43,7 @@ fn replaced(
 }
 
 // The rival to take.
-pub fn picked(field: [Rival; 8], margin: f64) -> MaybeRival
+pub fn picked(field: [Rival; PATH_MAX_PER_PEER], margin: f64) -> MaybeRival
     ensures { λ k. ⌜ k ≡ pickedOf field margin ⌝ }
 {
     let g = crate::gate::gate_of(field);
@@ -69,7 +69,7 @@ fn slot(r: Rival) -> usize
 }
 
 // The place of the path to take.
-pub fn choose(field: [Rival; 8], margin: f64) -> Chosen
+pub fn choose(field: [Rival; PATH_MAX_PER_PEER], margin: f64) -> Chosen
     ensures { λ k. ⌜ k ≡ chooseOf field margin ⌝ }
 {
     if !crate::gate::none(field, Test::Long) {
@@ -85,7 +85,7 @@ pub fn choose(field: [Rival; 8], margin: f64) -> Chosen
 }
 
 // The least score among the ranked.
-pub fn best(field: [Rival; 8]) -> BestAnswer
+pub fn best(field: [Rival; PATH_MAX_PER_PEER]) -> BestAnswer
     ensures { λ k. ⌜ k ≡ bestOf field ⌝ }
 {
     if !crate::gate::none(field, Test::Long) {

@@ -5,12 +5,13 @@ ghost use Rattle.base.specs.Seq.{every};
 ghost use Rattle.select.specs.Rivals.{isLong, atPlace, placed};
 ghost use Rattle.select.specs.Scans.{isNamed, isRanked, asksOf, lacksOf, topOf, gateOf};
 use crate::types::*;
+use base::limits::DURATION_END;
 
 // Whether a rival has a round trip of 2^62 or more.
 pub fn long(r: Rival) -> bool
     ensures { λ k. ⌜ k ≡ isLong r ⌝ }
 {
-    (r.timed & (0x4000_0000_0000_0000 <= r.rtt)) | (r.based & (0x4000_0000_0000_0000 <= r.base))
+    (r.timed & (DURATION_END <= r.rtt)) | (r.based & (DURATION_END <= r.base))
 }
 
 // Whether a rival is one that the pins leave.
@@ -39,11 +40,11 @@ fn asks(t: Test, r: Rival) -> bool
 }
 
 // Whether no rival has what a test asks for.
-pub fn none(field: [Rival; 8], t: Test) -> bool
+pub fn none(field: [Rival; PATH_MAX_PER_PEER], t: Test) -> bool
     ensures { λ k. ⌜ k ≡ every (lacksOf t) field ⌝ }
 {
     let mut i: usize = 0;
-    while i < 8 {
+    while i < PATH_MAX_PER_PEER {
         let r = field[i];
         if asks(t, r) {
             return false;
@@ -61,11 +62,11 @@ fn at_place(r: Rival, place: usize) -> bool
 }
 
 // Whether each rival has its place for index.
-pub fn in_place(field: [Rival; 8]) -> bool
+pub fn in_place(field: [Rival; PATH_MAX_PER_PEER]) -> bool
     ensures { λ k. ⌜ k ≡ placed 0 field ⌝ }
 {
     let mut i: usize = 0;
-    while i < 8 {
+    while i < PATH_MAX_PER_PEER {
         let r = field[i];
         if !at_place(r, i) {
             return false;
@@ -83,12 +84,12 @@ fn higher(a: u8, b: u8) -> u8
 }
 
 // The highest tier among those that the pins leave.
-fn top_tier(field: [Rival; 8], pinned: bool) -> u8
+fn top_tier(field: [Rival; PATH_MAX_PER_PEER], pinned: bool) -> u8
     ensures { λ k. ⌜ k ≡ topOf pinned field ⌝ }
 {
     let mut top: u8 = 0;
     let mut i: usize = 0;
-    while i < 8 {
+    while i < PATH_MAX_PER_PEER {
         let r = field[i];
         i += 1;
         if named(pinned, r) {
@@ -99,7 +100,7 @@ fn top_tier(field: [Rival; 8], pinned: bool) -> u8
 }
 
 // Who is ranked in a field.
-pub fn gate_of(field: [Rival; 8]) -> Gate
+pub fn gate_of(field: [Rival; PATH_MAX_PER_PEER]) -> Gate
     ensures { λ g. ⌜ g ≡ gateOf field ⌝ }
 {
     let pinned = !none(field, Test::Pinned);

@@ -3,6 +3,7 @@ ghost use mathlib.Core.Path.{_≡_};
 ghost use Prim.Native.Nat.{_-_};
 ghost use Rattle.select.specs.Hold.{keptOf, fasterOf, beatsOf, staysOf, aboveOf, eitherLong, heldOf, waitsOf, newHold, reportOf, holdsOf, costOf};
 use crate::types::*;
+use base::limits::DURATION_END;
 use base::types::Refusal;
 
 // Whether `from` runs over a faster known medium and scores over the horizon within the margin of `to`.
@@ -121,7 +122,7 @@ impl Hold {
     pub fn held(self, now: u64, dwell: u64) -> CostAnswer
         ensures { λ k. ⌜ k ≡ costOf self now dwell ⌝ }
     {
-        if 0x4000_0000_0000_0000 <= dwell {
+        if DURATION_END <= dwell {
             return CostAnswer::Refused(Refusal::Duration);
         }
         if holds(self, now, dwell) {

@@ -78,12 +78,12 @@ fn better(w: Want, f: MaybeRival, r: Rival) -> MaybeRival
 }
 
 // The first of the rivals that a scan for `w` takes.
-pub fn least(field: [Rival; 8], w: Want) -> MaybeRival
+pub fn least(field: [Rival; PATH_MAX_PER_PEER], w: Want) -> MaybeRival
     ensures { λ k. ⌜ k ≡ scanOf w field ⌝ }
 {
     let mut f = MaybeRival::None;
     let mut i: usize = 0;
-    while i < 8 {
+    while i < PATH_MAX_PER_PEER {
         let r = field[i];
         i += 1;
         if takes(w, r) {

@@ -3,6 +3,9 @@ ghost use mathlib.Core.Path.{_≡_};
 ghost use Rattle.select.specs.Rivals.{noRival};
 use base::types::Refusal;
 
+// The paths of a peer, and so the places of a field.
+pub const PATH_MAX_PER_PEER: usize = 8;
+
 // Over what a path runs.
 pub enum Medium {
     Ble,

@@ -4,9 +4,8 @@
 -- the Rust), and its silence ("Ring and late list": "`quiet` keeps the first send's instant"). Times are nanoseconds, an instant +
 -- duration is `deadlineOf`.
 use Prim.Native.Nat.{ℕ, _*_, _^_, min, max}
-use mathlib.Core.Bool.{Bool, true, false}
+use mathlib.Core.Bool.{Bool, true, false, cond}
 use lib.Dec.{ltb}
-use Rattle.base.specs.Seq.{pick}
 use Rattle.base.specs.Time.{deadlineOf}
 use Rattle.base.specs.declared.types.MaybeTime.{MaybeTime}
 use Rattle.base.specs.declared.types.MaybeTime.the-variants as time
@@ -34,7 +33,7 @@ quietFrom s at = record { stop = s .stop; quiet = time.Some (fromOf (s .quiet) a
 
 -- if active, quiet (else at) + 30 s
 abbrev pub untilOf : MaybeTime → ℕ → Bool → MaybeTime
-untilOf quiet at active = pick active (time.Some (deadlineOf 64 (fromOf quiet at) (seconds 30))) time.None
+untilOf quiet at active = cond active (time.Some (deadlineOf 64 (fromOf quiet at) (seconds 30))) time.None
 
 -- free = at + 1 s, gap and used 1 s; if active, until = quiet (else at) + 30 s
 abbrev pub firstStop : MaybeTime → ℕ → Bool → Stop
@@ -66,15 +65,15 @@ isBefore at (time.Some u) = ltb at u
 
 -- 1 s before until, else doubled to at most 30 s
 abbrev pub gapAfter : ℕ → Stop → ℕ
-gapAfter at x = pick (isBefore at (x .until)) (seconds 1) (min (2 * x .gap) (seconds 30))
+gapAfter at x = cond (isBefore at (x .until)) (seconds 1) (min (2 * x .gap) (seconds 30))
 
 -- used = gap, free = at + gap; the gap after that; owed cleared
-abbrev pub spentOf : ℕ → Stop → Stop
-spentOf at x = record { free = deadlineOf 64 at (x .gap); gap = gapAfter at x; used = x .gap; until = x .until; owed = false }
+abbrev pub spentStop : ℕ → Stop → Stop
+spentStop at x = record { free = deadlineOf 64 at (x .gap); gap = gapAfter at x; used = x .gap; until = x .until; owed = false }
 
 -- `spend`, only while stopped
 abbrev pub spendOf : Silence → ℕ → Silence
-spendOf s at = whileStopped (spentOf at) s
+spendOf s at = whileStopped (spentStop at) s
 
 -- free and owed set, the rest as it is
 abbrev pub markedOf : Stop → ℕ → Bool → Stop
@@ -85,13 +84,13 @@ abbrev pub oweOf : Silence → Silence
 oweOf s = whileStopped (λ x. markedOf x (x .free) true) s
 
 -- if owed, clears it and, if ok, lifts free to at least at + used
-abbrev pub rebasedOf : ℕ → Bool → Stop → Stop
-rebasedOf at ok x =
-    pick (x .owed) (markedOf x (pick ok (max (x .free) (deadlineOf 64 at (x .used))) (x .free)) false) x
+abbrev pub rebasedStop : ℕ → Bool → Stop → Stop
+rebasedStop at ok x =
+    cond (x .owed) (markedOf x (cond ok (max (x .free) (deadlineOf 64 at (x .used))) (x .free)) false) x
 
 -- `rebase`, only while stopped
 abbrev pub rebaseOf : Silence → ℕ → Bool → Silence
-rebaseOf s at ok = whileStopped (rebasedOf at ok) s
+rebaseOf s at ok = whileStopped (rebasedStop at ok) s
 
 -- there is a stop
 abbrev pub isStopped : MaybeStop → Bool
@@ -108,8 +107,8 @@ freeOf None = time.None
 freeOf (Some x) = time.Some (x .free)
 
 -- `held`: while stopped, the instant from which the next probe may go
-abbrev pub heldOf : Silence → MaybeTime
-heldOf s = freeOf (s .stop)
+abbrev pub heldUntil : Silence → MaybeTime
+heldUntil s = freeOf (s .stop)
 
 -- the gap, where there is an until
 abbrev pub gapWith : MaybeTime → ℕ → MaybeTime

@@ -1,6 +1,6 @@
 // A path's stop: when its next probe may go, and how its gaps grow.
 ghost use mathlib.Core.Path.{_≡_};
-ghost use Rattle.stop.specs.Silence.{fromOf, quietFrom, untilOf, firstStop, haltIn, haltOf, isBefore, gapAfter, spentOf, spendOf, markedOf, oweOf, rebasedOf, rebaseOf, stoppedOf, heldOf, gapWith, recheckOf};
+ghost use Rattle.stop.specs.Silence.{fromOf, quietFrom, untilOf, firstStop, haltIn, haltOf, isBefore, gapAfter, spentStop, spendOf, markedOf, oweOf, rebasedStop, rebaseOf, stoppedOf, heldUntil, gapWith, recheckOf};
 use crate::types::*;
 use base::types::MaybeTime;
 
@@ -111,7 +111,7 @@ fn gap_after(x: Stop, at: u64) -> u64
 
 // A stop after a slot used at `at`.
 fn spent(x: Stop, at: u64) -> Stop
-    ensures { λ r. ⌜ r ≡ spentOf at x ⌝ }
+    ensures { λ r. ⌜ r ≡ spentStop at x ⌝ }
 {
     let end = x.until;
     let free = base::time::deadline(at, x.gap);
@@ -177,14 +177,14 @@ pub fn owe(s: Silence) -> Silence
 
 // A stop whose owed slot is settled at `at`: opened or not.
 fn rebased(x: Stop, at: u64, ok: bool) -> Stop
-    ensures { λ r. ⌜ r ≡ rebasedOf at ok x ⌝ }
+    ensures { λ r. ⌜ r ≡ rebasedStop at ok x ⌝ }
 {
     if !x.owed {
         return x;
     }
     if ok {
         let least = base::time::deadline(at, x.used);
-        let free = base::time::larger(x.free, least);
+        let free = base::num::max_u64(x.free, least);
         return marked(x, free, false);
     }
     marked(x, x.free, false)
@@ -221,7 +221,7 @@ pub fn stopped(s: Silence) -> bool
 
 // While the path is stopped, the instant from which its next probe may go.
 pub fn held(s: Silence) -> MaybeTime
-    ensures { λ r. ⌜ r ≡ heldOf s ⌝ }
+    ensures { λ r. ⌜ r ≡ heldUntil s ⌝ }
 {
     let stop = s.stop;
     match stop {

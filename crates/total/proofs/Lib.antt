@@ -2,3 +2,4 @@
 pub mod KeyLaws
 pub mod ValueLaws
 pub mod OrderLaws
+pub mod StrictLaws

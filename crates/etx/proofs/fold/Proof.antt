@@ -2,7 +2,7 @@
 -- Assumes nothing.
 use mathlib.Core.Path.{_≡_, _∙_}
 use mathlib.Core.Logic.{⊎-elim}
-use Rattle.etx.specs.Etx.{foldOf, sampleOf}
+use Rattle.etx.specs.Etx.{foldOf, outcomeOf}
 use borrow.Author.Needs.{needs}
 use Rattle.etx.proofs.fold.Statement.{statement}
 use Rattle.etx.proofs.fold.Tie as tie
@@ -20,7 +20,7 @@ returns : tie.Need-returns
 unfolding foldOf
 returns c =
     let a = c .before .before .before .before .args in
-    let sampled : c .before .before .if1 .sample ≡ sampleOf (a .delivered) =
+    let sampled : c .before .before .if1 .sample ≡ outcomeOf (a .delivered) =
     ⊎-elim (λ w. w .1 ∙ simp (w .0 .taken)) (λ w. w .1 ∙ simp (w .0 .left)) (c .before .before .if1 .came)
     in
     simp (c .clamp2 .ensures, c .before .max .ensures, sampled, c .before .before .before .clamp .ensures)

@@ -18,7 +18,7 @@ returns c =
     let p = a .args .path in
     let x : length (p .ring) ≡ 8 = simp length-map at (a .good .1 .0 .1 .1 .1 .0 .1 .0 .1) in
     let y : length (p .late) ≡ 4 = simp length-map at (a .good .1 .0 .1 .1 .1 .1 .0 .1 .0 .1) in
-    let m : length (p .rtts .rtts) ≡ 32 = simp length-map at (a .good .1 .0 .1 .1 .0 .1 .1 .0 .1 .0 .1) in
+    let m : length (p .rtts .samples) ≡ 32 = simp length-map at (a .good .1 .0 .1 .1 .0 .1 .1 .0 .1 .0 .1) in
     let n : length (p .rtts .spans) ≡ 8 = simp length-map at (a .good .1 .0 .1 .1 .0 .1 .1 .1 .0 .1 .0 .1) in
     let k = refused _ (image-length p x y m n) (c .if1 .taken) in
     (k .0, (k .1, image-bytes p x y m n))
@@ -79,7 +79,7 @@ returns-2 c =
     let p = a .args .path in
     let x : length (p .ring) ≡ 8 = simp length-map at (a .good .1 .0 .1 .1 .1 .0 .1 .0 .1) in
     let y : length (p .late) ≡ 4 = simp length-map at (a .good .1 .0 .1 .1 .1 .1 .0 .1 .0 .1) in
-    let m : length (p .rtts .rtts) ≡ 32 = simp length-map at (a .good .1 .0 .1 .1 .0 .1 .1 .0 .1 .0 .1) in
+    let m : length (p .rtts .samples) ≡ 32 = simp length-map at (a .good .1 .0 .1 .1 .0 .1 .1 .0 .1 .0 .1) in
     let n : length (p .rtts .spans) ≡ 8 = simp length-map at (a .good .1 .0 .1 .1 .0 .1 .1 .1 .0 .1 .0 .1) in
     let f₁ = part _ _ h (none-yet _) refl (front-length p x y) tt (e .write-front .ensures .1) in
     let f₂ = part _ _ h f₁ refl (rtts-length (p .rtts) m n) tt (d .write-rtts .ensures .1) in

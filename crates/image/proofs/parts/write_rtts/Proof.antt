@@ -13,7 +13,7 @@ returns : tie.Need-returns
 returns c =
     let a = c .before .before in
     let r = a .args .r in
-    let m : length (r .rtts) ≡ 32 = simp length-map at (a .good .1 .0 .1 .1 .0 .1 .0 .1) in
+    let m : length (r .samples) ≡ 32 = simp length-map at (a .good .1 .0 .1 .1 .0 .1 .0 .1) in
     let n : length (r .spans) ≡ 8 = simp length-map at (a .good .1 .0 .1 .1 .1 .0 .1 .0 .1) in
     refused _ (rtts-length r m n) (c .if1 .taken)
 
@@ -71,10 +71,10 @@ returns-2 c =
     let h = g .before .if1 .left in
     let a = g .before .before .before in
     let r = a .args .r in
-    let m : length (r .rtts) ≡ 32 = simp length-map at (a .good .1 .0 .1 .1 .0 .1 .0 .1) in
+    let m : length (r .samples) ≡ 32 = simp length-map at (a .good .1 .0 .1 .1 .0 .1 .0 .1) in
     let n : length (r .spans) ≡ 8 = simp length-map at (a .good .1 .0 .1 .1 .1 .0 .1 .0 .1) in
     let f₁ = part _ _ h (none-yet _) (g .time-words .ensures) refl tt (e .put-words .ensures .1) in
-    let f₂ = part _ _ h f₁ refl (samples-length (r .rtts) m) tt (d .write-samples .ensures .1) in
+    let f₂ = part _ _ h f₁ refl (samples-length (r .samples) m) tt (d .write-samples .ensures .1) in
     written _ (part _ _ h f₂ refl (spans-length (r .spans) n) tt (c .before .before .write-spans .ensures .1))
 
 pub write-rtts-spec : {M : Type 1} → statement M

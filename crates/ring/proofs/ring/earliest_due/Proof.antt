@@ -1,12 +1,13 @@
 -- `ring::ring::earliest_due` meets its contract: the loop folds the waiting probes. The measure is the places left.
 -- Assumes nothing.
 use Prim.Native.Nat.{_-_}
-use Rattle.base.proofs.ScanLaws.{Folding, folding-start, folding-take, folding-skip, folding-end}
+use Rattle.base.proofs.ScanLaws.{Folding, folding-start, folding-take, folding-skip}
+use Rattle.base.proofs.LeastLaws.{folding-least}
 use Rattle.base.specs.declared.types.MaybeTime.the-variants.{None}
 use Rattle.ring.proofs.ring.earliest_due.Statement.{statement}
 use Rattle.ring.proofs.ring.earliest_due.Tie as tie
 use Rattle.ring.specs.Ring.{isUsed, earliestDue}
-use Rattle.base.specs.Least.{lowerOf}
+use Rattle.base.specs.Passes.{lowerOf}
 use Rattle.ring.specs.declared.types.Sent.{Sent}
 use borrow.Author.Needs.{needs}
 
@@ -45,7 +46,7 @@ loop-again-2 c = folding-skip _ (c .before .before .before .loop .inv) (search n
 
 returns : tie.Need-returns Inv-loop μ-loop
 unfolding earliestDue
-returns c = folding-end (c .before .loop .inv) (search needs)
+returns c = folding-least (c .before .loop .inv) (search needs)
 
 pub earliest-due-spec : {M : Type 1} → statement M
 earliest-due-spec =

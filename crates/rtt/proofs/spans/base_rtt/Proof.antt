@@ -1,12 +1,13 @@
 -- `rtt::spans::base_rtt` meets its contract: the loop folds the spans. The measure is the places left.
 -- Assumes nothing.
 use Prim.Native.Nat.{_-_}
-use Rattle.base.proofs.ScanLaws.{Folding, folding-start, folding-take, folding-skip, folding-end}
+use Rattle.base.proofs.ScanLaws.{Folding, folding-start, folding-take, folding-skip}
+use Rattle.base.proofs.LeastLaws.{folding-least}
 use Rattle.base.specs.declared.types.MaybeTime.the-variants.{None}
 use Rattle.rtt.proofs.spans.base_rtt.Statement.{statement}
 use Rattle.rtt.proofs.spans.base_rtt.Tie as tie
 use Rattle.rtt.specs.Spans.{isSpan, baseRtt}
-use Rattle.base.specs.Least.{lowerOf}
+use Rattle.base.specs.Passes.{lowerOf}
 use Rattle.rtt.specs.declared.types.Span.{Span}
 use borrow.Author.Needs.{needs}
 
@@ -45,7 +46,7 @@ loop-again-2 c = folding-skip _ (c .before .before .before .loop .inv) (search n
 
 returns : tie.Need-returns Inv-loop μ-loop
 unfolding baseRtt
-returns c = folding-end (c .before .loop .inv) (search needs)
+returns c = folding-least (c .before .loop .inv) (search needs)
 
 pub base-rtt-spec : {M : Type 1} → statement M
 base-rtt-spec =

@@ -4,11 +4,11 @@ use Rattle.rtt.proofs.spans.joined.Statement.{statement}
 use Rattle.rtt.proofs.spans.joined.Tie as tie
 use borrow.Author.Needs.{needs}
 
-smaller-requires : tie.Need-smaller-requires
-smaller-requires c κs = search needs
+min-u64-requires : tie.Need-min-u64-requires
+min-u64-requires c κs = search needs
 
 returns : tie.Need-returns
-returns c = rw (c .smaller .ensures)
+returns c = rw (c .min-u64 .ensures)
 
 pub joined-spec : {M : Type 1} → statement M
-joined-spec = tie.close (tie.spec smaller-requires returns)
+joined-spec = tie.close (tie.spec min-u64-requires returns)

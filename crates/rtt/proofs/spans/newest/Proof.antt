@@ -1,16 +1,17 @@
 -- `rtt::spans::newest` meets its contract: one pass finds the leader, the last of equals. The measure is the places left.
 -- Assumes nothing.
 use Prim.Native.Nat.{_-_}
-use Rattle.base.proofs.MarkedLaws.{Last, by-greatest, leading-start, last-take, last-skip, last-end}
+use Rattle.base.proofs.FirstLaws.{by-greatest}
+use Rattle.base.proofs.MarkedLaws.{LeadsLast, leading-start, last-take, last-skip, last-end}
 use Rattle.rtt.proofs.spans.newest.Statement.{statement}
 use Rattle.rtt.proofs.spans.newest.Tie as tie
-use Rattle.rtt.specs.Spans.{isSpan, noEarlier, noSpan}
+use Rattle.rtt.specs.Spans.{isSpan, spanLater, noSpan}
 use Rattle.rtt.specs.declared.types.Span.{Span}
 use borrow.Author.Needs.{needs}
 use mathlib.Core.Path.{refl, sym, _∙_}
 
 abbrev Inv-loop : tie.InvT-loop
-Inv-loop spans best₀ place₀ i₀ best place i = Last isSpan noEarlier noSpan spans 8 best place i
+Inv-loop spans best₀ place₀ i₀ best place i = LeadsLast isSpan spanLater noSpan spans 8 best place i
 
 abbrev μ-loop : tie.MeasureT-loop
 μ-loop spans best₀ place₀ i₀ best place i = 8 - i

@@ -1,16 +1,17 @@
 -- `rtt::spans::oldest` meets its contract: one pass finds the leader, the first of equals. The measure is the places left.
 -- Assumes nothing.
 use Prim.Native.Nat.{_-_}
-use Rattle.base.proofs.MarkedLaws.{First, by-least, leading-start, first-take, first-skip, first-end}
+use Rattle.base.proofs.FirstLaws.{by-least}
+use Rattle.base.proofs.MarkedLaws.{LeadsFirst, leading-start, first-take, first-skip, first-end}
 use Rattle.rtt.proofs.spans.oldest.Statement.{statement}
 use Rattle.rtt.proofs.spans.oldest.Tie as tie
-use Rattle.rtt.specs.Spans.{isSpan, noLater, noSpan}
+use Rattle.rtt.specs.Spans.{isSpan, spanEarlier, noSpan}
 use Rattle.rtt.specs.declared.types.Span.{Span}
 use borrow.Author.Needs.{needs}
 use mathlib.Core.Path.{refl, sym, _∙_}
 
 abbrev Inv-loop : tie.InvT-loop
-Inv-loop spans best₀ place₀ i₀ best place i = First isSpan noLater noSpan spans 8 best place i
+Inv-loop spans best₀ place₀ i₀ best place i = LeadsFirst isSpan spanEarlier noSpan spans 8 best place i
 
 abbrev μ-loop : tie.MeasureT-loop
 μ-loop spans best₀ place₀ i₀ best place i = 8 - i

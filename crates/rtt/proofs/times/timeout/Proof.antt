@@ -7,25 +7,25 @@ use Rattle.rtt.proofs.times.timeout.Tie as tie
 thrice-requires : tie.Need-thrice-requires
 thrice-requires c κs = search needs
 
-larger-requires : tie.Need-larger-requires
-larger-requires c κs = search needs
+max-u64-requires : tie.Need-max-u64-requires
+max-u64-requires c κs = search needs
 
 thrice-requires-2 : tie.Need-thrice-requires-2
 thrice-requires-2 c κs = search needs
 
-smaller-requires : tie.Need-smaller-requires
-smaller-requires c κs = search needs
+min-u64-requires : tie.Need-min-u64-requires
+min-u64-requires c κs = search needs
 
-larger-requires-2 : tie.Need-larger-requires-2
-larger-requires-2 c κs = search needs
+max-u64-requires-2 : tie.Need-max-u64-requires-2
+max-u64-requires-2 c κs = search needs
 
 returns : tie.Need-returns
 returns c =
     let d = c .before .before in
     rw
-    (c .larger2 .ensures, c .before .smaller .ensures, d .thrice2 .ensures, d .before .larger .ensures, d .before .before .thrice .ensures)
+    (c .max-u642 .ensures, c .before .min-u64 .ensures, d .thrice2 .ensures, d .before .max-u64 .ensures, d .before .before .thrice .ensures)
 
 pub timeout-spec : {M : Type 1} → statement M
 timeout-spec =
     tie.close
-    (tie.spec thrice-requires larger-requires thrice-requires-2 smaller-requires larger-requires-2 returns)
+    (tie.spec thrice-requires max-u64-requires thrice-requires-2 min-u64-requires max-u64-requires-2 returns)

@@ -1,12 +1,13 @@
 -- `rtt::window::max_rtt` meets its contract: the loop folds the samples. The measure is the places left.
 -- Assumes nothing.
 use Prim.Native.Nat.{_-_}
-use Rattle.base.proofs.ScanLaws.{Folding, folding-start, folding-take, folding-skip, folding-end}
+use Rattle.base.proofs.ScanLaws.{Folding, folding-start, folding-take, folding-skip}
+use Rattle.base.proofs.LeastLaws.{folding-largest}
 use Rattle.base.specs.declared.types.MaybeTime.the-variants.{None}
 use Rattle.rtt.proofs.window.max_rtt.Statement.{statement}
 use Rattle.rtt.proofs.window.max_rtt.Tie as tie
 use Rattle.rtt.specs.Samples.{isSample, maxRtt}
-use Rattle.rtt.specs.Times.{higherOf}
+use Rattle.base.specs.Passes.{higherOf}
 use Rattle.rtt.specs.declared.types.Sample.{Sample}
 use borrow.Author.Needs.{needs}
 
@@ -45,7 +46,7 @@ loop-again-2 c = folding-skip _ (c .before .before .before .loop .inv) (search n
 
 returns : tie.Need-returns Inv-loop μ-loop
 unfolding maxRtt
-returns c = folding-end (c .before .loop .inv) (search needs)
+returns c = folding-largest (c .before .loop .inv) (search needs)
 
 pub max-rtt-spec : {M : Type 1} → statement M
 max-rtt-spec =

@@ -1,16 +1,17 @@
 -- `rtt::window::oldest` meets its contract: one pass finds the leader, the first of equals. The measure is the places left.
 -- Assumes nothing.
 use Prim.Native.Nat.{_-_}
-use Rattle.base.proofs.MarkedLaws.{First, by-least, leading-start, first-take, first-skip, first-end}
+use Rattle.base.proofs.FirstLaws.{by-least}
+use Rattle.base.proofs.MarkedLaws.{LeadsFirst, leading-start, first-take, first-skip, first-end}
 use Rattle.rtt.proofs.window.oldest.Statement.{statement}
 use Rattle.rtt.proofs.window.oldest.Tie as tie
-use Rattle.rtt.specs.Samples.{isSample, noLater, noSample}
+use Rattle.rtt.specs.Samples.{isSample, sampleEarlier, noSample}
 use Rattle.rtt.specs.declared.types.Sample.{Sample}
 use borrow.Author.Needs.{needs}
 use mathlib.Core.Path.{refl, sym, _∙_}
 
 abbrev Inv-loop : tie.InvT-loop
-Inv-loop rtts best₀ place₀ i₀ best place i = First isSample noLater noSample rtts 32 best place i
+Inv-loop rtts best₀ place₀ i₀ best place i = LeadsFirst isSample sampleEarlier noSample rtts 32 best place i
 
 abbrev μ-loop : tie.MeasureT-loop
 μ-loop rtts best₀ place₀ i₀ best place i = 32 - i

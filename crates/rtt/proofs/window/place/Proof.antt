@@ -1,11 +1,12 @@
 -- `rtt::window::place` meets its contract: the gap where there is one, else the leader, which is there.
 -- Assumes nothing.
 use Prim.Native.Nat.{_≤_}
-use Rattle.base.proofs.MarkedLaws.{by-least, place-gap, place-leader, place-there}
+use Rattle.base.proofs.FirstLaws.{by-least}
+use Rattle.base.proofs.MarkedLaws.{place-gap, place-leader, place-there}
 use Rattle.base.specs.Marked.{firstGap}
 use Rattle.rtt.proofs.window.place.Statement.{statement}
 use Rattle.rtt.proofs.window.place.Tie as tie
-use Rattle.rtt.specs.Samples.{isSample, noLater, noSample}
+use Rattle.rtt.specs.Samples.{isSample, sampleEarlier, noSample}
 use Rattle.rtt.specs.declared.types.Sample.{Sample}
 use borrow.Author.Needs.{needs}
 use lib.ListN.{length}
@@ -19,7 +20,7 @@ returns : tie.Need-returns
 returns c =
     let l = c .before .before .args .rtts in
     let h : length l ≡ 32 = search needs in
-    (place-gap isSample noLater l (c .before .first-gap .ensures) (omega arith), omega arith)
+    (place-gap isSample sampleEarlier l (c .before .first-gap .ensures) (omega arith), omega arith)
 
 oldest-requires : tie.Need-oldest-requires
 oldest-requires c κs = search needs
@@ -29,8 +30,8 @@ returns-2 c =
     let l = c .before .before .before .args .rtts in
     let h : length l ≡ 32 = search needs in
     let full : length l ≤ firstGap isSample l = omega (arith, c .before .before .first-gap .ensures, c .before .if1 .left) in
-    let e = place-leader isSample noLater l full (c .oldest .ensures) in
-    (e, rw e (omega (arith, place-there isSample noLater (by-least (λ (s : Sample). s .at)) noSample refl l (omega arith))))
+    let e = place-leader isSample sampleEarlier l full (c .oldest .ensures) in
+    (e, rw e (omega (arith, place-there isSample sampleEarlier (by-least (λ (s : Sample). s .at)) noSample refl l (omega arith))))
 
 pub place-spec : {M : Type 1} → statement M
 place-spec = tie.close (tie.spec first-gap-requires returns oldest-requires returns-2)

@@ -25,9 +25,33 @@ read-call-requires c κs = search needs
 
 returns-3 : tie.Need-returns-3
 unfolding highCall
-returns-3 c = rw (le-ltb _ _ (c .before .before .before .if1 .left), le-ltb _ _ (c .before .if2 .left)) (c .read-call .ensures)
+returns-3 c = rw (le-ltb _ _ (c .before .before .before .before .before .if1 .left), le-ltb _ _ (c .before .before .before .if2 .left), lt-ltb _ _ (c .before .if3 .taken)) (c .read-call .ensures)
+
+score-call-requires : tie.Need-score-call-requires
+score-call-requires c κs = search needs
+
+returns-4 : tie.Need-returns-4
+unfolding highCall
+returns-4 c = rw (le-ltb _ _ (c .before .before .before .before .before .before .before .if1 .left), le-ltb _ _ (c .before .before .before .before .before .if2 .left), le-ltb _ _ (c .before .before .before .if3 .left), lt-ltb _ _ (c .before .if4 .taken)) (c .score-call .ensures)
+
+count-call-requires : tie.Need-count-call-requires
+count-call-requires c κs = search needs
+
+returns-5 : tie.Need-returns-5
+unfolding highCall
+returns-5 c = rw (le-ltb _ _ (c .before .before .before .before .before .before .before .if1 .left), le-ltb _ _ (c .before .before .before .before .before .if2 .left), le-ltb _ _ (c .before .before .before .if3 .left), le-ltb _ _ (c .before .if4 .left)) (c .count-call .ensures)
 
 pub high-call-spec : {M : Type 1} → statement M
 high-call-spec =
     tie.close
-    (tie.spec stop-call-requires returns time-call-requires returns-2 read-call-requires returns-3)
+    (tie.spec
+    stop-call-requires
+    returns
+    time-call-requires
+    returns-2
+    read-call-requires
+    returns-3
+    score-call-requires
+    returns-4
+    count-call-requires
+    returns-5)

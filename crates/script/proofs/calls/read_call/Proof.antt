@@ -43,9 +43,6 @@ earliest-due-requires c κs = search needs
 tell-time-requires-4 : tie.Need-tell-time-requires-4
 tell-time-requires-4 c κs = search needs
 
-no-kind-requires : tie.Need-no-kind-requires
-no-kind-requires c κs = search needs
-
 returns : tie.Need-returns
 unfolding readCall
 returns c = rw (key 31 (c .before .before .match .keys1), c .tell .ensures, c .before .outstanding .ensures)
@@ -68,11 +65,7 @@ returns-5 c = rw (key 31 (c .before .before .match .keys5), key 32 (c .before .b
 
 returns-6 : tie.Need-returns-6
 unfolding readCall
-returns-6 c = rw (key 31 (c .before .before .match .keys6), key 32 (c .before .before .match .keys6), key 33 (c .before .before .match .keys6), key 34 (c .before .before .match .keys6), key 35 (c .before .before .match .keys6), key 36 (c .before .before .match .keys6), c .tell-time4 .ensures, c .before .earliest-due .ensures)
-
-returns-7 : tie.Need-returns-7
-unfolding readCall
-returns-7 c = rw (ne-eqb _ _ (c .before .match .rest .0 .0 .0 .0 .0 .1), ne-eqb _ _ (c .before .match .rest .0 .0 .0 .0 .1), ne-eqb _ _ (c .before .match .rest .0 .0 .0 .1), ne-eqb _ _ (c .before .match .rest .0 .0 .1), ne-eqb _ _ (c .before .match .rest .0 .1), ne-eqb _ _ (c .before .match .rest .1), c .no-kind .ensures)
+returns-6 c = rw (ne-eqb _ _ (c .before .before .match .rest .0 .0 .0 .0 .1), ne-eqb _ _ (c .before .before .match .rest .0 .0 .0 .1), ne-eqb _ _ (c .before .before .match .rest .0 .0 .1), ne-eqb _ _ (c .before .before .match .rest .0 .1), ne-eqb _ _ (c .before .before .match .rest .1), c .tell-time4 .ensures, c .before .earliest-due .ensures)
 
 pub read-call-spec : {M : Type 1} → statement M
 read-call-spec =
@@ -90,11 +83,9 @@ read-call-spec =
     tell-time-requires-3
     earliest-due-requires
     tell-time-requires-4
-    no-kind-requires
     returns
     returns-2
     returns-3
     returns-4
     returns-5
-    returns-6
-    returns-7)
+    returns-6)

@@ -40,8 +40,8 @@ give-requires-4 c κs = search needs
 timeout-requires : tie.Need-timeout-requires
 timeout-requires c κs = search needs
 
-of-time-requires : tie.Need-of-time-requires
-of-time-requires c κs = search needs
+of-answer-requires : tie.Need-of-answer-requires
+of-answer-requires c κs = search needs
 
 returns : tie.Need-returns
 unfolding stopCall
@@ -61,7 +61,7 @@ returns-4 c = rw (key 20 (c .before .before .before .match .keys4), key 21 (c .b
 
 returns-5 : tie.Need-returns-5
 unfolding stopCall
-returns-5 c = rw (ne-eqb _ _ (c .before .before .match .rest .0 .0 .0 .1), ne-eqb _ _ (c .before .before .match .rest .0 .0 .1), ne-eqb _ _ (c .before .before .match .rest .0 .1), ne-eqb _ _ (c .before .before .match .rest .1), c .of-time .ensures, c .before .timeout .ensures)
+returns-5 c = rw (ne-eqb _ _ (c .before .before .match .rest .0 .0 .0 .1), ne-eqb _ _ (c .before .before .match .rest .0 .0 .1), ne-eqb _ _ (c .before .before .match .rest .0 .1), ne-eqb _ _ (c .before .before .match .rest .1), c .of-answer .ensures, c .before .timeout .ensures)
 
 pub stop-call-spec : {M : Type 1} → statement M
 stop-call-spec =
@@ -78,7 +78,7 @@ stop-call-spec =
     rebase-requires
     give-requires-4
     timeout-requires
-    of-time-requires
+    of-answer-requires
     returns
     returns-2
     returns-3

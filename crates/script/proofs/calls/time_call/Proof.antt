@@ -7,14 +7,14 @@ use borrow.Author.Needs.{needs}
 use Rattle.script.proofs.calls.time_call.Statement.{statement}
 use Rattle.script.proofs.calls.time_call.Tie as tie
 
-low-requires : tie.Need-low-requires
-low-requires c κs = search needs
+low32-requires : tie.Need-low32-requires
+low32-requires c κs = search needs
 
 heard-requires : tie.Need-heard-requires
 heard-requires c κs = search needs
 
-of-doing-requires : tie.Need-of-doing-requires
-of-doing-requires c κs = search needs
+of-outcome-requires : tie.Need-of-outcome-requires
+of-outcome-requires c κs = search needs
 
 carried-requires : tie.Need-carried-requires
 carried-requires c κs = search needs
@@ -22,14 +22,14 @@ carried-requires c κs = search needs
 give-requires : tie.Need-give-requires
 give-requires c κs = search needs
 
-low-requires-2 : tie.Need-low-requires-2
-low-requires-2 c κs = search needs
+low32-requires-2 : tie.Need-low32-requires-2
+low32-requires-2 c κs = search needs
 
 shed-requires : tie.Need-shed-requires
 shed-requires c κs = search needs
 
-of-doing-requires-2 : tie.Need-of-doing-requires-2
-of-doing-requires-2 c κs = search needs
+of-outcome-requires-2 : tie.Need-of-outcome-requires-2
+of-outcome-requires-2 c κs = search needs
 
 stopped-requires : tie.Need-stopped-requires
 stopped-requires c κs = search needs
@@ -54,7 +54,7 @@ tell-time-requires-2 c κs = search needs
 
 returns : tie.Need-returns
 unfolding timeCall
-returns c = rw (key 25 (c .before .before .before .match .keys1), c .of-doing .ensures, c .before .heard .ensures, c .before .before .low .ensures)
+returns c = rw (key 25 (c .before .before .before .match .keys1), c .of-outcome .ensures, c .before .heard .ensures, c .before .before .low32 .ensures)
 
 returns-2 : tie.Need-returns-2
 unfolding timeCall
@@ -62,7 +62,7 @@ returns-2 c = rw (key 25 (c .before .before .match .keys2), key 26 (c .before .b
 
 returns-3 : tie.Need-returns-3
 unfolding timeCall
-returns-3 c = rw (key 25 (c .before .before .before .match .keys3), key 26 (c .before .before .before .match .keys3), key 27 (c .before .before .before .match .keys3), c .of-doing2 .ensures, c .before .shed .ensures, c .before .before .low2 .ensures)
+returns-3 c = rw (key 25 (c .before .before .before .match .keys3), key 26 (c .before .before .before .match .keys3), key 27 (c .before .before .before .match .keys3), c .of-outcome2 .ensures, c .before .shed .ensures, c .before .before .low322 .ensures)
 
 returns-4 : tie.Need-returns-4
 unfolding timeCall
@@ -80,14 +80,14 @@ pub time-call-spec : {M : Type 1} → statement M
 time-call-spec =
     tie.close
     (tie.spec
-    low-requires
+    low32-requires
     heard-requires
-    of-doing-requires
+    of-outcome-requires
     carried-requires
     give-requires
-    low-requires-2
+    low32-requires-2
     shed-requires
-    of-doing-requires-2
+    of-outcome-requires-2
     stopped-requires
     flag-requires
     tell-requires

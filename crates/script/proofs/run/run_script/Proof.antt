@@ -18,17 +18,26 @@ Inv-loop script out₀ path₀ at₀ out path at = Running script out₀ out pat
 abbrev μ-loop : tie.MeasureT-loop
 μ-loop script out₀ path₀ at₀ out path at = length script - at
 
+number-requires : tie.Need-number-requires Inv-loop μ-loop
+number-requires c κs = search needs
+
 returns : tie.Need-returns Inv-loop μ-loop
-returns c = script-cut _ _ (c .if1 .taken)
+returns c = script-cut _ _ (c .before .if1 .taken) (c .number .ensures)
+
+number-requires-2 : tie.Need-number-requires-2 Inv-loop μ-loop
+number-requires-2 c κs = search needs
 
 returns-2 : tie.Need-returns-2 Inv-loop μ-loop
-returns-2 c = script-lent _ _ (c .before .if1 .left) (omega arith)
+returns-2 c = script-lent _ _ (c .before .before .if1 .left) (omega arith) (c .number2 .ensures)
 
 sub-if3 : tie.Need-sub-if3 Inv-loop μ-loop
 sub-if3 c = search needs
 
+number-requires-3 : tie.Need-number-requires-3 Inv-loop μ-loop
+number-requires-3 c κs = search needs
+
 returns-3 : tie.Need-returns-3 Inv-loop μ-loop
-returns-3 c = script-lent _ _ (c .before .before .if1 .left) (omega arith)
+returns-3 c = script-lent _ _ (c .before .before .before .if1 .left) (omega arith) (c .number3 .ensures)
 
 new-requires : tie.Need-new-requires Inv-loop μ-loop
 new-requires c κs = search needs
@@ -99,9 +108,12 @@ run-script-spec =
     (tie.spec
     Inv-loop
     μ-loop
+    number-requires
     returns
+    number-requires-2
     returns-2
     sub-if3
+    number-requires-3
     returns-3
     new-requires
     loop-holds

@@ -18,8 +18,17 @@ returns-2 : tie.Need-returns-2
 unfolding rungOf
 returns-2 c = simp (lt-leb _ _ (c .before .before .if1 .left), sym (c .before .fits2 .ensures) ∙ c .if2 .taken)
 
+array-read-most : tie.Need-array-read-most
+array-read-most c = search needs
+
 mul-most : tie.Need-mul-most
 mul-most c = search needs
+
+array-read-most-2 : tie.Need-array-read-most-2
+array-read-most-2 c = search needs
+
+div-most : tie.Need-div-most
+div-most c = search needs
 
 cast-most : tie.Need-cast-most
 cast-most c = search needs
@@ -30,6 +39,21 @@ fits-requires-2 c κs = search needs
 returns-3 : tie.Need-returns-3
 unfolding rungOf
 returns-3 c = simp (lt-leb _ _ (c .before .before .before .before .if1 .left), sym (c .before .before .before .fits2 .ensures) ∙ c .before .before .if2 .left, sym (c .before .fits3 .ensures) ∙ c .if3 .taken)
+
+array-read-half : tie.Need-array-read-half
+array-read-half c = search needs
+
+mul-half : tie.Need-mul-half
+mul-half c = search needs
+
+array-read-half-2 : tie.Need-array-read-half-2
+array-read-half-2 c = search needs
+
+div-half : tie.Need-div-half
+div-half c = search needs
+
+cast-half : tie.Need-cast-half
+cast-half c = search needs
 
 fits-requires-3 : tie.Need-fits-requires-3
 fits-requires-3 c κs = search needs
@@ -49,10 +73,18 @@ rung-spec =
     returns
     fits-requires
     returns-2
+    array-read-most
     mul-most
+    array-read-most-2
+    div-most
     cast-most
     fits-requires-2
     returns-3
+    array-read-half
+    mul-half
+    array-read-half-2
+    div-half
+    cast-half
     fits-requires-3
     returns-4
     returns-5)

@@ -1,14 +1,14 @@
 -- `seek::search::seek_answer` meets its contract: the test is the rule's, turned round.
 -- Assumes nothing.
 use lib.Dec.{eqb}
-use Rattle.seek.specs.Search.{seekAnswerOf}
-use Rattle.seek.proofs.TestLaws.{turned}
+use Rattle.seek.specs.Search.{settledSearch}
+use Rattle.base.proofs.Cases.{turned}
 use borrow.Author.Needs.{needs}
 use Rattle.seek.proofs.search.seek_answer.Statement.{statement}
 use Rattle.seek.proofs.search.seek_answer.Tie as tie
 
 returns : tie.Need-returns
-unfolding seekAnswerOf
+unfolding settledSearch
 returns c =
     let a = c .before .before .before .before .args in
     simp (turned (eqb (a .s .seek .len) 0) (eqb (a .s .seek .«probe_id») (a .id)), c .if1 .taken)
@@ -17,7 +17,7 @@ unseek-requires : tie.Need-unseek-requires
 unseek-requires c κs = search needs
 
 returns-2 : tie.Need-returns-2
-unfolding seekAnswerOf
+unfolding settledSearch
 returns-2 c =
     let a = c .before .before .before .before .before .args in
     simp (turned (eqb (a .s .seek .len) 0) (eqb (a .s .seek .«probe_id») (a .id)), c .before .if1 .left, c .unseek .ensures)

@@ -1,6 +1,6 @@
 -- `seek::search::seek_next` meets its contract: the next try is the deadline.
 -- Assumes nothing.
-use Rattle.seek.specs.Search.{seekNextOf}
+use Rattle.seek.specs.Search.{nextSearch}
 use borrow.Author.Needs.{needs}
 use Rattle.seek.proofs.search.seek_next.Statement.{statement}
 use Rattle.seek.proofs.search.seek_next.Tie as tie
@@ -9,7 +9,7 @@ deadline-requires : tie.Need-deadline-requires
 deadline-requires c κs = search needs
 
 returns : tie.Need-returns
-unfolding seekNextOf
+unfolding nextSearch
 returns c = simp (c .deadline .ensures)
 
 pub seek-next-spec : {M : Type 1} → statement M

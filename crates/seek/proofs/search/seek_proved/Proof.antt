@@ -5,8 +5,8 @@ use borrow.Author.Needs.{needs}
 use Rattle.seek.proofs.search.seek_proved.Statement.{statement}
 use Rattle.seek.proofs.search.seek_proved.Tie as tie
 
-smaller-requires : tie.Need-smaller-requires
-smaller-requires c κs = search needs
+min-u16-requires : tie.Need-min-u16-requires
+min-u16-requires c κs = search needs
 
 rises-requires : tie.Need-rises-requires
 rises-requires c κs = search needs
@@ -26,7 +26,7 @@ returns c =
     let d = b .before .before .before in
     let a = d .before .before .args in
     proved-made (a .s) (a .sent) (a .acked) (a .now)
-    (d .smaller .ensures) (b .before .before .rises .ensures) (b .before .raise .ensures) (c .before .known .ensures)
+    (d .min-u16 .ensures) (b .before .before .rises .ensures) (b .before .raise .ensures) (c .before .known .ensures)
     (acked-short (a .s .seek .lost) (a .sent) (a .acked) (b .if1 .taken)) (c .lose-size .ensures)
 
 known-requires-2 : tie.Need-known-requires-2
@@ -41,14 +41,14 @@ returns-2 c =
     let d = b .before .before .before in
     let a = d .before .before .args in
     proved-made (a .s) (a .sent) (a .acked) (a .now)
-    (d .smaller .ensures) (b .before .before .rises .ensures) (b .before .raise .ensures) (c .before .known2 .ensures)
+    (d .min-u16 .ensures) (b .before .before .rises .ensures) (b .before .raise .ensures) (c .before .known2 .ensures)
     (acked-whole (a .s .seek .lost) (a .sent) (a .acked) (b .if1 .left)) (c .end .ensures)
 
 pub seek-proved-spec : {M : Type 1} → statement M
 seek-proved-spec =
     tie.close
     (tie.spec
-    smaller-requires
+    min-u16-requires
     rises-requires
     raise-requires
     known-requires

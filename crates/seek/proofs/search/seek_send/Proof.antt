@@ -1,12 +1,12 @@
 -- `seek::search::seek_send` meets its contract: the struct is made anew.
 -- Assumes nothing.
 use mathlib.Core.Path.{refl}
-use Rattle.seek.specs.Search.{seekSendOf}
+use Rattle.seek.specs.Search.{sentSearch}
 use Rattle.seek.proofs.search.seek_send.Statement.{statement}
 use Rattle.seek.proofs.search.seek_send.Tie as tie
 
 returns : tie.Need-returns
-unfolding seekSendOf
+unfolding sentSearch
 returns c = refl
 
 pub seek-send-spec : {M : Type 1} → statement M

@@ -11,8 +11,8 @@ returns c = rw (not-true (c .before .before .args .x .owed) (c .if1 .taken))
 deadline-requires : tie.Need-deadline-requires
 deadline-requires c κs = search needs
 
-larger-requires : tie.Need-larger-requires
-larger-requires c κs = search needs
+max-u64-requires : tie.Need-max-u64-requires
+max-u64-requires c κs = search needs
 
 marked-requires : tie.Need-marked-requires
 marked-requires c κs = search needs
@@ -20,7 +20,7 @@ marked-requires c κs = search needs
 returns-2 : tie.Need-returns-2
 returns-2 c =
     let d = c .before .before .before in
-    rw (not-false (d .before .before .before .args .x .owed) (d .before .if1 .left), d .if2 .taken, c .marked .ensures, c .before .larger .ensures, c .before .before .deadline .ensures)
+    rw (not-false (d .before .before .before .args .x .owed) (d .before .if1 .left), d .if2 .taken, c .marked .ensures, c .before .max-u64 .ensures, c .before .before .deadline .ensures)
 
 marked-requires-2 : tie.Need-marked-requires-2
 marked-requires-2 c κs = search needs
@@ -34,7 +34,7 @@ rebased-spec =
     (tie.spec
     returns
     deadline-requires
-    larger-requires
+    max-u64-requires
     marked-requires
     returns-2
     marked-requires-2

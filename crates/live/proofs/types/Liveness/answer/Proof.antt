@@ -44,8 +44,11 @@ element-set-from-free c = search needs
 returns-2 : tie.Need-returns-2
 returns-2 c = answer-late _ _ (c .before .before .before .before .before .before .find .ensures) (c .before .before .before .before .before .if1 .left) (c .before .before .before .find-late .ensures) (c .before .before .if2 .taken) (c .none .ensures)
 
+refused-requires : tie.Need-refused-requires
+refused-requires c κs = search needs
+
 returns-3 : tie.Need-returns-3
-returns-3 c = answer-unknown _ _ (c .before .before .before .before .find .ensures) (c .before .before .before .if1 .left) (c .before .find-late .ensures) (c .if2 .left)
+returns-3 c = answer-unknown _ _ (c .before .before .before .before .before .find .ensures) (c .before .before .before .before .if1 .left) (c .before .before .find-late .ensures) (c .before .if2 .left) (c .refused .ensures)
 
 pub answer-spec : {M : Type 1} → statement M
 answer-spec =
@@ -64,4 +67,5 @@ answer-spec =
     mul-free
     element-set-from-free
     returns-2
+    refused-requires
     returns-3)

@@ -6,8 +6,11 @@ use borrow.Author.Needs.{needs}
 use Rattle.live.proofs.types.Liveness.expire.Statement.{statement}
 use Rattle.live.proofs.types.Liveness.expire.Tie as tie
 
+refused-requires : tie.Need-refused-requires
+refused-requires c κs = search needs
+
 returns : tie.Need-returns
-returns c = expire-long _ _ _ _ (c .if1 .taken)
+returns c = expire-long _ _ _ _ (c .before .if1 .taken) (c .refused .ensures)
 
 scan-requires : tie.Need-scan-requires
 scan-requires c κs = search needs
@@ -36,16 +39,14 @@ padded-requires c κs = search needs
 missed-requires : tie.Need-missed-requires
 missed-requires c κs = search needs
 
-lapse-answer-requires : tie.Need-lapse-answer-requires
-lapse-answer-requires c κs = search needs
-
 returns-3 : tie.Need-returns-3
-returns-3 c = expire-made _ _ _ _ (c .before .before .before .before .before .before .before .before .before .before .before .before .before .before .before .if1 .left) (c .before .before .before .before .before .before .before .before .before .before .before .before .scan .ensures) (c .before .before .before .before .before .before .before .before .before .before .if2 .left) refl (c .before .before .before .before .before .before .before .before .take-out .ensures) (c .before .before .before .before .before .before .remember .ensures) (c .before .before .before .before .before .counted .ensures) (c .before .before .before .before .padded .ensures) (c .before .before .missed .ensures) (c .lapse-answer .ensures)
+returns-3 c = expire-made _ _ _ _ (c .before .before .before .before .before .before .before .before .before .before .before .before .before .before .if1 .left) (c .before .before .before .before .before .before .before .before .before .before .before .scan .ensures) (c .before .before .before .before .before .before .before .before .before .if2 .left) refl (c .before .before .before .before .before .before .before .take-out .ensures) (c .before .before .before .before .before .remember .ensures) (c .before .before .before .before .counted .ensures) (c .before .before .before .padded .ensures) (c .before .missed .ensures)
 
 pub expire-spec : {M : Type 1} → statement M
 expire-spec =
     tie.close
     (tie.spec
+    refused-requires
     returns
     scan-requires
     returns-2
@@ -56,5 +57,4 @@ expire-spec =
     counted-requires
     padded-requires
     missed-requires
-    lapse-answer-requires
     returns-3)

@@ -7,12 +7,12 @@ use borrow.Author.Needs.{needs}
 use Rattle.live.proofs.types.Liveness.heard.Statement.{statement}
 use Rattle.live.proofs.types.Liveness.heard.Tie as tie
 
-not-done-requires : tie.Need-not-done-requires
-not-done-requires c κs = search needs
+refused-requires : tie.Need-refused-requires
+refused-requires c κs = search needs
 
 returns : tie.Need-returns
 unfolding heardOf
-returns c = rw (lt-ltb _ _ (c .before .if1 .taken)) (c .not-done .ensures)
+returns c = rw (lt-ltb _ _ (c .before .if1 .taken)) (c .refused .ensures)
 
 wrapping-add-u32-requires : tie.Need-wrapping-add-u32-requires
 wrapping-add-u32-requires c κs = search needs
@@ -28,7 +28,7 @@ pub heard-spec : {M : Type 1} → statement M
 heard-spec =
     tie.close
     (tie.spec
-    not-done-requires
+    refused-requires
     returns
     wrapping-add-u32-requires
     wrapping-add-u32-requires-2

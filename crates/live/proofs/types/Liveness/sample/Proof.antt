@@ -7,26 +7,26 @@ use borrow.Author.Needs.{needs}
 use Rattle.live.proofs.types.Liveness.sample.Statement.{statement}
 use Rattle.live.proofs.types.Liveness.sample.Tie as tie
 
-not-done-requires : tie.Need-not-done-requires
-not-done-requires c κs = search needs
+refused-requires : tie.Need-refused-requires
+refused-requires c κs = search needs
 
 returns : tie.Need-returns
 unfolding sampleOf
-returns c = rw (le-leb _ _ (c .before .if1 .taken)) (c .not-done .ensures)
+returns c = rw (le-leb _ _ (c .before .if1 .taken)) (c .refused .ensures)
 
-not-done-requires-2 : tie.Need-not-done-requires-2
-not-done-requires-2 c κs = search needs
+refused-requires-2 : tie.Need-refused-requires-2
+refused-requires-2 c κs = search needs
 
 returns-2 : tie.Need-returns-2
 unfolding sampleOf
-returns-2 c = rw (lt-leb _ _ (c .before .before .if1 .left)) (rw (le-leb _ _ (c .before .if2 .taken)) (c .not-done2 .ensures))
+returns-2 c = rw (lt-leb _ _ (c .before .before .if1 .left)) (rw (le-leb _ _ (c .before .if2 .taken)) (c .refused2 .ensures))
 
-not-done-requires-3 : tie.Need-not-done-requires-3
-not-done-requires-3 c κs = search needs
+refused-requires-3 : tie.Need-refused-requires-3
+refused-requires-3 c κs = search needs
 
 returns-3 : tie.Need-returns-3
 unfolding sampleOf
-returns-3 c = rw (lt-leb _ _ (c .before .before .before .if1 .left)) (rw (lt-leb _ _ (c .before .before .if2 .left)) (rw (le-leb _ _ (c .before .if3 .taken)) (c .not-done3 .ensures)))
+returns-3 c = rw (lt-leb _ _ (c .before .before .before .if1 .left)) (rw (lt-leb _ _ (c .before .before .if2 .left)) (rw (le-leb _ _ (c .before .if3 .taken)) (c .refused3 .ensures)))
 
 sample-requires : tie.Need-sample-requires
 sample-requires c κs = search needs
@@ -39,11 +39,11 @@ pub sample-spec : {M : Type 1} → statement M
 sample-spec =
     tie.close
     (tie.spec
-    not-done-requires
+    refused-requires
     returns
-    not-done-requires-2
+    refused-requires-2
     returns-2
-    not-done-requires-3
+    refused-requires-3
     returns-3
     sample-requires
     returns-4)

@@ -7,12 +7,12 @@ use borrow.Author.Needs.{needs}
 use Rattle.live.proofs.types.Liveness.seek_answer.Statement.{statement}
 use Rattle.live.proofs.types.Liveness.seek_answer.Tie as tie
 
-no-len-requires : tie.Need-no-len-requires
-no-len-requires c κs = search needs
+refused-requires : tie.Need-refused-requires
+refused-requires c κs = search needs
 
 returns : tie.Need-returns
 unfolding seekAnswerOf
-returns c = rw (le-leb _ _ (c .before .if1 .taken)) (c .no-len .ensures)
+returns c = rw (le-leb _ _ (c .before .if1 .taken)) (c .refused .ensures)
 
 seek-answer-requires : tie.Need-seek-answer-requires
 seek-answer-requires c κs = search needs
@@ -20,15 +20,15 @@ seek-answer-requires c κs = search needs
 enum-told : tie.Need-enum-told
 enum-told c = search needs
 
-no-len-requires-2 : tie.Need-no-len-requires-2
-no-len-requires-2 c κs = search needs
+refused-requires-2 : tie.Need-refused-requires-2
+refused-requires-2 c κs = search needs
 
 enum-known-found : tie.Need-enum-known-found
 enum-known-found c = search needs
 
 returns-2 : tie.Need-returns-2
 unfolding seekAnswerOf
-returns-2 c = rw (lt-leb _ _ (c .before .before .before .before .if1 .left)) (rw (sym (c .before .before .before .seek-answer .ensures), c .before .enum-told .given .1) (c .no-len2 .ensures))
+returns-2 c = rw (lt-leb _ _ (c .before .before .before .before .if1 .left)) (rw (sym (c .before .before .before .seek-answer .ensures), c .before .enum-told .given .1) (c .refused2 .ensures))
 
 returns-3 : tie.Need-returns-3
 unfolding seekAnswerOf
@@ -38,11 +38,11 @@ pub seek-answer-spec : {M : Type 1} → statement M
 seek-answer-spec =
     tie.close
     (tie.spec
-    no-len-requires
+    refused-requires
     returns
     seek-answer-requires
     enum-told
-    no-len-requires-2
+    refused-requires-2
     enum-known-found
     returns-2
     returns-3)

@@ -7,38 +7,34 @@ use borrow.Author.Needs.{needs}
 use Rattle.live.proofs.types.Liveness.seek_judge.Statement.{statement}
 use Rattle.live.proofs.types.Liveness.seek_judge.Tie as tie
 
-no-judge-requires : tie.Need-no-judge-requires
-no-judge-requires c κs = search needs
+refused-requires : tie.Need-refused-requires
+refused-requires c κs = search needs
 
 returns : tie.Need-returns
 unfolding seekJudgeOf
-returns c = rw (le-leb _ _ (c .before .if1 .taken)) (c .no-judge .ensures)
+returns c = rw (le-leb _ _ (c .before .if1 .taken)) (c .refused .ensures)
 
-no-judge-requires-2 : tie.Need-no-judge-requires-2
-no-judge-requires-2 c κs = search needs
+refused-requires-2 : tie.Need-refused-requires-2
+refused-requires-2 c κs = search needs
 
 returns-2 : tie.Need-returns-2
 unfolding seekJudgeOf
-returns-2 c = rw (lt-leb _ _ (c .before .before .if1 .left)) (rw (le-leb _ _ (c .before .if2 .taken)) (c .no-judge2 .ensures))
+returns-2 c = rw (lt-leb _ _ (c .before .before .if1 .left)) (rw (le-leb _ _ (c .before .if2 .taken)) (c .refused2 .ensures))
 
 seek-judge-requires : tie.Need-seek-judge-requires
 seek-judge-requires c κs = search needs
 
-lost-answer-requires : tie.Need-lost-answer-requires
-lost-answer-requires c κs = search needs
-
 returns-3 : tie.Need-returns-3
 unfolding seekJudgeOf
-returns-3 c = rw (lt-leb _ _ (c .before .before .before .before .before .if1 .left)) (rw (lt-leb _ _ (c .before .before .before .before .if2 .left)) (rw (c .lost-answer .ensures, c .before .before .seek-judge .ensures)))
+returns-3 c = rw (lt-leb _ _ (c .before .before .before .before .if1 .left)) (rw (lt-leb _ _ (c .before .before .before .if2 .left)) (rw (c .before .seek-judge .ensures)))
 
 pub seek-judge-spec : {M : Type 1} → statement M
 seek-judge-spec =
     tie.close
     (tie.spec
-    no-judge-requires
+    refused-requires
     returns
-    no-judge-requires-2
+    refused-requires-2
     returns-2
     seek-judge-requires
-    lost-answer-requires
     returns-3)

@@ -7,19 +7,19 @@ use borrow.Author.Needs.{needs}
 use Rattle.live.proofs.types.Liveness.seek_proved.Statement.{statement}
 use Rattle.live.proofs.types.Liveness.seek_proved.Tie as tie
 
-no-raise-requires : tie.Need-no-raise-requires
-no-raise-requires c κs = search needs
+refused-requires : tie.Need-refused-requires
+refused-requires c κs = search needs
 
 returns : tie.Need-returns
 unfolding seekProvedOf
-returns c = rw (lt-ltb _ _ (c .before .if1 .taken)) (c .no-raise .ensures)
+returns c = rw (lt-ltb _ _ (c .before .if1 .taken)) (c .refused .ensures)
 
-no-raise-requires-2 : tie.Need-no-raise-requires-2
-no-raise-requires-2 c κs = search needs
+refused-requires-2 : tie.Need-refused-requires-2
+refused-requires-2 c κs = search needs
 
 returns-2 : tie.Need-returns-2
 unfolding seekProvedOf
-returns-2 c = rw (le-ltb _ _ (c .before .before .if1 .left)) (rw (lt-ltb _ _ (c .before .if2 .taken)) (c .no-raise2 .ensures))
+returns-2 c = rw (le-ltb _ _ (c .before .before .if1 .left)) (rw (lt-ltb _ _ (c .before .if2 .taken)) (c .refused2 .ensures))
 
 cast-seek-proved : tie.Need-cast-seek-proved
 cast-seek-proved c = search needs
@@ -30,23 +30,19 @@ cast-seek-proved-2 c = search needs
 seek-proved-requires : tie.Need-seek-proved-requires
 seek-proved-requires c κs = search needs
 
-raised-answer-requires : tie.Need-raised-answer-requires
-raised-answer-requires c κs = search needs
-
 returns-3 : tie.Need-returns-3
 unfolding seekProvedOf
-returns-3 c = rw (le-ltb _ _ (c .before .before .before .before .if1 .left)) (rw (le-ltb _ _ (c .before .before .before .if2 .left)) (rw (c .raised-answer .ensures, c .before .before .seek-proved .ensures)))
+returns-3 c = rw (le-ltb _ _ (c .before .before .before .if1 .left)) (rw (le-ltb _ _ (c .before .before .if2 .left)) (rw (c .before .seek-proved .ensures)))
 
 pub seek-proved-spec : {M : Type 1} → statement M
 seek-proved-spec =
     tie.close
     (tie.spec
-    no-raise-requires
+    refused-requires
     returns
-    no-raise-requires-2
+    refused-requires-2
     returns-2
     cast-seek-proved
     cast-seek-proved-2
     seek-proved-requires
-    raised-answer-requires
     returns-3)

@@ -7,19 +7,19 @@ use Rattle.live.specs.Search.{seekRingOf}
 use Rattle.live.proofs.types.Liveness.seek_ring.Statement.{statement}
 use Rattle.live.proofs.types.Liveness.seek_ring.Tie as tie
 
-no-id-requires : tie.Need-no-id-requires
-no-id-requires c κs = search needs
+refused-requires : tie.Need-refused-requires
+refused-requires c κs = search needs
 
 returns : tie.Need-returns
 unfolding seekRingOf
-returns c = rw (lt-ltb _ _ (c .before .if1 .taken)) (c .no-id .ensures)
+returns c = rw (lt-ltb _ _ (c .before .if1 .taken)) (c .refused .ensures)
 
-no-id-requires-2 : tie.Need-no-id-requires-2
-no-id-requires-2 c κs = search needs
+refused-requires-2 : tie.Need-refused-requires-2
+refused-requires-2 c κs = search needs
 
 returns-2 : tie.Need-returns-2
 unfolding seekRingOf
-returns-2 c = rw (le-ltb _ _ (c .before .before .if1 .left)) (rw (le-leb _ _ (c .before .if2 .taken)) (c .no-id2 .ensures))
+returns-2 c = rw (le-ltb _ _ (c .before .before .if1 .left)) (rw (le-leb _ _ (c .before .if2 .taken)) (c .refused2 .ensures))
 
 send-requires : tie.Need-send-requires
 send-requires c κs = search needs
@@ -35,9 +35,9 @@ pub seek-ring-spec : {M : Type 1} → statement M
 seek-ring-spec =
     tie.close
     (tie.spec
-    no-id-requires
+    refused-requires
     returns
-    no-id-requires-2
+    refused-requires-2
     returns-2
     send-requires
     ring-search-requires

@@ -7,12 +7,12 @@ use borrow.Author.Needs.{needs}
 use Rattle.live.proofs.types.Liveness.seek_send.Statement.{statement}
 use Rattle.live.proofs.types.Liveness.seek_send.Tie as tie
 
-no-id-requires : tie.Need-no-id-requires
-no-id-requires c κs = search needs
+refused-requires : tie.Need-refused-requires
+refused-requires c κs = search needs
 
 returns : tie.Need-returns
 unfolding seekSendOf
-returns c = rw (lt-ltb _ _ (c .before .if1 .taken)) (c .no-id .ensures)
+returns c = rw (lt-ltb _ _ (c .before .if1 .taken)) (c .refused .ensures)
 
 take-id-requires : tie.Need-take-id-requires
 take-id-requires c κs = search needs
@@ -30,4 +30,4 @@ returns-2 c = rw (le-ltb _ _ (c .before .before .before .if1 .left)) (rw (c .see
 pub seek-send-spec : {M : Type 1} → statement M
 seek-send-spec =
     tie.close
-    (tie.spec no-id-requires returns take-id-requires cast-seek-send seek-send-requires returns-2)
+    (tie.spec refused-requires returns take-id-requires cast-seek-send seek-send-requires returns-2)

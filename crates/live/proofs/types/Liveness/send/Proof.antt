@@ -5,20 +5,20 @@ use borrow.Author.Needs.{needs}
 use Rattle.live.proofs.types.Liveness.send.Statement.{statement}
 use Rattle.live.proofs.types.Liveness.send.Tie as tie
 
-no-id-requires : tie.Need-no-id-requires
-no-id-requires c κs = search needs
+refused-requires : tie.Need-refused-requires
+refused-requires c κs = search needs
 
 returns : tie.Need-returns
-returns c = send-long _ _ _ _ _ (c .before .if1 .taken) (c .no-id .ensures)
+returns c = send-long _ _ _ _ _ (c .before .if1 .taken) (c .refused .ensures)
 
 first-free-requires : tie.Need-first-free-requires
 first-free-requires c κs = search needs
 
-no-id-requires-2 : tie.Need-no-id-requires-2
-no-id-requires-2 c κs = search needs
+refused-requires-2 : tie.Need-refused-requires-2
+refused-requires-2 c κs = search needs
 
 returns-2 : tie.Need-returns-2
-returns-2 c = send-full _ _ _ _ _ (c .before .before .before .before .if1 .left) (c .before .before .first-free .ensures) (c .before .if2 .taken) (c .no-id2 .ensures)
+returns-2 c = send-full _ _ _ _ _ (c .before .before .before .before .if1 .left) (c .before .before .first-free .ensures) (c .before .if2 .taken) (c .refused2 .ensures)
 
 cast-short : tie.Need-cast-short
 cast-short c = search needs
@@ -48,10 +48,10 @@ pub send-spec : {M : Type 1} → statement M
 send-spec =
     tie.close
     (tie.spec
-    no-id-requires
+    refused-requires
     returns
     first-free-requires
-    no-id-requires-2
+    refused-requires-2
     returns-2
     cast-short
     drop-since-requires

@@ -8,12 +8,12 @@ use borrow.Author.Needs.{needs}
 use Rattle.live.proofs.types.Liveness.shed.Statement.{statement}
 use Rattle.live.proofs.types.Liveness.shed.Tie as tie
 
-not-done-requires : tie.Need-not-done-requires
-not-done-requires c κs = search needs
+refused-requires : tie.Need-refused-requires
+refused-requires c κs = search needs
 
 returns : tie.Need-returns
 unfolding shedOf
-returns c = rw (lt-ltb _ _ (c .before .if1 .taken)) (c .not-done .ensures)
+returns c = rw (lt-ltb _ _ (c .before .if1 .taken)) (c .refused .ensures)
 
 wrapping-sub-u32-requires : tie.Need-wrapping-sub-u32-requires
 wrapping-sub-u32-requires c κs = search needs
@@ -29,7 +29,7 @@ pub shed-spec : {M : Type 1} → statement M
 shed-spec =
     tie.close
     (tie.spec
-    not-done-requires
+    refused-requires
     returns
     wrapping-sub-u32-requires
     wrapping-sub-u32-requires-2
