@@ -1,5 +1,6 @@
--- The paths that the marked figures speak of, each made from a new one by the rules of the methods alone (document 01, "Twelve marked
--- figures"). Where a figure names no instant, everything happens at instant 0, with gap, timeout and cap 0 and the draw 0.
+-- The paths that the marked figures speak of, each made from a new one by the rules of the methods alone (document 01,
+-- "Twelve marked figures"). Where a figure names no instant, everything happens at instant 0, with gap, timeout and cap
+-- 0 and the draw 0.
 use Prim.Native.Nat.{ℕ, zero, suc, _-_, _*_, _^_}
 use mathlib.Core.Bool.{Bool, true, false, cond}
 use mathlib.Core.List.{List, [], _∷_}
@@ -54,7 +55,8 @@ lost p = seekJudgeOf (answerOf (sendOf p 0 0 27 0 .path) (answerValue (sendOf p 
 abbrev pub fullLost : ℕ → ℕ → Liveness
 fullLost n full = lost (searched (proven n) full)
 
--- rest after a clearing, as it shows: the size out, the lost size, the refusal of `seek_size` 1 ns before 600 s, its size at 600 s
+-- rest after a clearing, as it shows: the size out, the lost size, the refusal of `seek_size` 1 ns before 600 s, its
+-- size at 600 s
 abbrev pub restOf : Liveness → ℕ → List ℕ
 restOf p full =
     p .sizes .seek .len ∷

@@ -1,4 +1,5 @@
--- One law for every part of the image: words that are written behind the words before them, in one piece or element by element.
+-- One law for every part of the image: words that are written behind the words before them, in one piece or element by
+-- element.
 -- Assumes nothing.
 use mathlib.Core.Path.{_≡_, refl, sym, ap, _∙_}
 use mathlib.Core.List.{List, [], _∷_, _++_}

@@ -1,6 +1,6 @@
--- The image of a path, for the host that runs both sides (document 01, "Forms the Rust can't lend": it "calls ours as C functions on
--- numbers and bytes"): all that a path keeps as 225 numbers of eight bytes, so that the two are compared field by field. What may be
--- missing is a tag, 1 or 0, and a value, 0 if missing.
+-- The image of a path, for the host that runs both sides (document 01, "Forms the Rust can't lend": it "calls ours as C
+-- functions on numbers and bytes"): all that a path keeps as 225 numbers of eight bytes, so that the two are compared
+-- field by field. What may be missing is a tag, 1 or 0, and a value, 0 if missing.
 use mathlib.Core.List.{List, [], _∷_, _++_}
 use mathlib.Core.Bool.{Bool, cond}
 use Prim.Native.Nat.{ℕ}
@@ -92,7 +92,8 @@ sampleWords s = flagOf (s .used) ∷ s .at ∷ s .rtt ∷ []
 abbrev pub spanWords : Span → List ℕ
 spanWords s = flagOf (s .used) ∷ s .from ∷ s .to ∷ s .rtt ∷ []
 
--- the ETX by its pattern; "only which NaN an operation on floats yields is left open", so every NaN is the quiet one without a payload
+-- the ETX by its pattern; "only which NaN an operation on floats yields is left open", so every NaN is the quiet one
+-- without a payload
 abbrev pub etxBits : Float → ℕ
 etxBits x = cond (isNan x) 0x7ff8_0000_0000_0000 (toBits binary64 x)
 

@@ -1,5 +1,5 @@
--- What send, answer and expire make, from what their parts are. Each part is a variable here, so that a rewrite meets no more than
--- its name, however large a path is.
+-- What send, answer and expire make, from what their parts are. Each part is a variable here, so that a rewrite meets
+-- no more than its name, however large a path is.
 -- Assumes nothing.
 use Prim.Native.Nat.{ℕ, _<_, _≤_, _^_}
 use mathlib.Core.Path.{_≡_, refl, sym}

@@ -1,4 +1,5 @@
--- Probes sent, answered and lapsed (document 01, "Identifiers" and "Ring (8) and late list (4)"), with the refusals 5, 6, 8 and 9.
+-- Probes sent, answered and lapsed (document 01, "Identifiers" and "Ring (8) and late list (4)"), with the refusals 5,
+-- 6, 8 and 9.
 use Prim.Native.Nat.{ℕ}
 use mathlib.Core.List.{List}
 use mathlib.Core.Bool.{Bool, true, cond, _||_}
@@ -43,7 +44,8 @@ newSent id at due n = record { at = at; due = due; «probe_id» = id; len = n; u
 abbrev pub sentLadder : Ladder → ℕ → Ladder
 sentLadder l n = record { last = len.Some n; fallen = l .fallen }
 
--- the probe stands in a place of the ring under the identifier taken; its size is the last one; `quiet` keeps the first send's instant
+-- the probe stands in a place of the ring under the identifier taken; its size is the last one; `quiet` keeps the first
+-- send's instant
 abbrev pub sentPath : Liveness → ℕ → Ids → ℕ → ℕ → ℕ → ℕ → Liveness
 sentPath p slot kept id at due n =
     withRing
@@ -54,8 +56,8 @@ sentPath p slot kept id at due n =
 abbrev pub sentAt : Liveness → ℕ → Ids → ℕ → ℕ → ℕ → ℕ → Outcome
 sentAt p slot kept id at due n = record { path = sentPath p slot kept id at due n; answer = answer.Id id }
 
--- 5 for a length above 65,535; `send` takes the first free place and the next identifier, and drops `since` if every waiting probe
--- counts; with eight waiting it takes no identifier: 8
+-- 5 for a length above 65,535; `send` takes the first free place and the next identifier, and drops `since` if every
+-- waiting probe counts; with eight waiting it takes no identifier: 8
 unfoldable pub sendOf : Liveness → ℕ → ℕ → ℕ → ℕ → Outcome
 sendOf p at due n draw =
     cond (isOverlong n)
@@ -66,7 +68,8 @@ sendOf p at due n draw =
 
 -- ---- answer
 
--- in time means still in the ring: the ring closes up, misses become 0, `answered` moves only from none or to a later identifier
+-- in time means still in the ring: the ring closes up, misses become 0, `answered` moves only from none or to a later
+-- identifier
 abbrev pub answeredAt : Liveness → ℕ → ℕ → Outcome
 answeredAt p slot id =
     record {
@@ -94,8 +97,8 @@ answerOf p id =
 abbrev pub lapsedLadder : Ladder → Bool → Ladder
 lapsedLadder l fall = record { last = l .last; fallen = fall || l .fallen }
 
--- the probe s at a place of what the scan left lapses: it leaves the ring, which closes up, and enters the late list at the end;
--- a miss counts
+-- the probe s at a place of what the scan left lapses: it leaves the ring, which closes up, and enters the late list at
+-- the end; a miss counts
 abbrev pub lapsedPath : Liveness → List Sent → ℕ → Sent → Liveness
 lapsedPath p ring slot s =
     withRing

@@ -1,4 +1,5 @@
--- Sizes (document 01, "Size search", `size` and `fresh` of "Ring (8) and late list (4)"), with the refusals 5, 6, 8, 9 and 10.
+-- Sizes (document 01, "Size search", `size` and `fresh` of "Ring (8) and late list (4)"), with the refusals 5, 6, 8, 9
+-- and 10.
 use Prim.Native.Nat.{ℕ}
 use mathlib.Core.Bool.{Bool, true, false, cond}
 use Rattle.base.specs.Limits.{isOverlong, isUndersize, isEndless}
@@ -23,7 +24,8 @@ use Rattle.live.specs.declared.types.Answer.the-variants.{Id, Len, Flag,
 
 -- ---- fresh and size
 
--- `fresh` sets the epoch to the next identifier, zeroes misses and clears seek, `fallen` and the last size, not the proven size
+-- `fresh` sets the epoch to the next identifier, zeroes misses and clears seek, `fallen` and the last size, not the
+-- proven size
 abbrev pub freshOf : Liveness → Liveness
 freshOf p =
     withIds

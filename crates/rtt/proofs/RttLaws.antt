@@ -1,5 +1,6 @@
--- What `sample` does to the three round trips of a path: none is there before the first sample; after a sample of x the last is x, and
--- the least of the window and the least over the horizon are there and at most x. For a later reader of a path's standing.
+-- What `sample` does to the three round trips of a path: none is there before the first sample; after a sample of x the
+-- last is x, and the least of the window and the least over the horizon are there and at most x. For a later reader of
+-- a path's standing.
 -- Assumes nothing.
 use Prim.Native.Nat.{ℕ, suc, _<_, _≤_}
 use mathlib.Core.Path.{_≡_, refl}

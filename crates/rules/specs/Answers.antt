@@ -20,7 +20,8 @@ use Rattle.rules.specs.Step.{Entry, freshRecord, step, choiceOf, trace}
 use Rattle.rules.specs.declared.types.Settings.{Settings}
 use Rattle.rules.specs.declared.types.Event.{Event}
 
--- an event with the fields of a file's record, in the file's order: kind, slot, now, span, draw or identifier, length, acked, flags
+-- an event with the fields of a file's record, in the file's order: kind, slot, now, span, draw or identifier, length,
+-- acked, flags
 abbrev pub event : ℕ → ℕ → ℕ → ℕ → ℕ → ℕ → ℕ → ℕ → Event
 event kind slot now span id len acked flags =
     record { now = now; span = span; id = id; len = len; acked = acked; kind = kind; slot = slot; flags = flags }
@@ -35,7 +36,7 @@ numbers [] = []
 numbers (x ∷ l) = (x .number, x .value) ∷ numbers l
 
 unfoldable pub answers : Settings → List Event → List (ℕ × ℕ)
-unfolding ofBits le isNan mul add sub div ofInt totalOf foldOf scoreOf qualityOf minRtt withSample baseRtt spanOf outstandingOf sendOf answerOf expireOf proveOf seekSizeOf seekSendOf seekAnswerOf seekProvedOf seekJudgeOf sampleOf heardOf proposalOf search.seekSizeOf search.seekSendOf search.seekAnswerOf search.seekProvedOf search.seekJudgeOf rankedOf pickedOf onSlot choiceOf step
+unfolding ofBits le isNan mul add sub div ofInt totalOf foldOf scoreOf qualityOf minRtt withSample baseRtt spanOf outstandingOf sendOf answerOf expireOf proveOf seekSizeOf seekSendOf seekAnswerOf seekProvedOf seekJudgeOf sampleOf heardOf proposalOf search.searchSize search.sentSearch search.settledSearch search.ackedSearch search.judgedSearch rankedOf pickedOf onSlot choiceOf step
 answers t es = numbers (trace (freshRecord t) es)
 
 -- a list with the answers that it should get, and that it gets them

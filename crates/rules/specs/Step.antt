@@ -1,12 +1,12 @@
--- The record, one event on it, and a list of events (document 01, "Peer record": "each event gets the record that the last one returned
--- or, refused, left").
-use Prim.Native.Nat.{ℕ, suc, _^_}
-use mathlib.Core.Bool.{Bool, true, false, not, _&&_}
+-- The record, one event on it, and a list of events (document 01, "Peer record": "each event gets the record that the
+-- last one returned or, refused, left").
+use Prim.Native.Nat.{ℕ, suc}
+use mathlib.Core.Bool.{Bool, true, false, not, cond}
 use mathlib.Core.List.{List, [], _∷_}
-use lib.Dec.{ltb}
 use lib.Ieee.{Float, nan, inf, fin, binary64, ofBits, le}
 use lib.ListN.{getD, set, replicate}
-use Rattle.base.specs.Seq.{pick}
+use Rattle.base.specs.Limits.{isEndless}
+use Rattle.base.specs.Seq.{every}
 use Rattle.base.specs.declared.types.Refusal.the-variants as refusal
 use Rattle.base.specs.declared.types.MaybeTime.{MaybeTime}
 use Rattle.base.specs.declared.types.MaybeTime.the-variants as time
@@ -32,14 +32,14 @@ use Rattle.rules.specs.declared.types.Stepped.{Stepped}
 
 -- "Settings: cap, gap, window, horizon; with one of 2^62 or more, no record is made (6)"
 abbrev pub allowed : Settings → Bool
-allowed t = ltb (t .cap) (2 ^ 62) && ltb (t .gap) (2 ^ 62) && ltb (t .window) (2 ^ 62) && ltb (t .horizon) (2 ^ 62)
+allowed t = every (λ d. not (isEndless d)) (t .cap ∷ t .gap ∷ t .window ∷ t .horizon ∷ [])
 
 -- eight empty slots
 abbrev pub freshRecord : Settings → Record
 freshRecord t = record { settings = t; slots = replicate 8 emptySlot }
 
 unfoldable pub recordOf : Settings → Stepped
-recordOf t = record { next = freshRecord t; reply = pick (allowed t) reply.Nothing (reply.Refused refusal.Duration) }
+recordOf t = record { next = freshRecord t; reply = cond (allowed t) reply.Nothing (reply.Refused refusal.Duration) }
 
 -- the slot with a number, and the record with that slot changed
 abbrev pub slotAt : Record → ℕ → Slot
@@ -75,16 +75,16 @@ rivalOf i s =
       rtt = timeIn (s .path .rtts .rtt);
       base = timeIn (baseRtt (s .path .rtts .spans));
       index = i;
-      tier = tierOf (s .role);
+      tier = tierOf (s .label .role);
       held = s .used;
       scored = isScored (pathScore (s .path));
       steadied = isScored (pathSteady (s .path));
       timed = isTimed (s .path .rtts .rtt);
       based = isTimed (baseRtt (s .path .rtts .spans));
-      preferred = s .preferred;
-      pinned = s .pinned;
-      fits = s .fits;
-      medium = s .medium;
+      preferred = s .label .preferred;
+      pinned = s .label .pinned;
+      fits = s .label .fits;
+      medium = s .label .medium;
     }
 
 -- the slots from number i on
@@ -108,13 +108,17 @@ choiceReply rival.None = reply.Refused refusal.NoPath
 
 unfoldable pub choiceOf : Record → Event → Stepped
 choiceOf r e =
-    record { next = r; reply = pick (isMargin (marginOf e)) (choiceReply (pickedOf (rivalsFrom 0 (r .slots)) (marginOf e))) (reply.Refused refusal.Margin) }
+    record {
+      next = r;
+      reply = cond (isMargin (marginOf e))
+          (choiceReply (pickedOf (rivalsFrom 0 (r .slots)) (marginOf e))) (reply.Refused refusal.Margin);
+    }
 
 -- ---- events
 
 -- one event: "Choose reads no slot"; all others do their work on one
 unfoldable pub step : Record → Event → Stepped
-step r e = pick (is Choose e) (choiceOf r e) (put r (e .slot) (onSlot (r .settings) (slotAt r (e .slot)) e))
+step r e = cond (is Choose e) (choiceOf r e) (put r (e .slot) (onSlot (r .settings) (slotAt r (e .slot)) e))
 
 -- the record after a list of events
 abbrev pub run : Record → List Event → Record
@@ -131,4 +135,5 @@ pub record Entry : Type 0 where
 abbrev pub trace : Record → List Event → List Entry
 trace r [] = []
 trace r (e ∷ es) =
-    record { event = e; number = numberOf (step r e .reply); value = valueOf (step r e .reply) } ∷ trace (step r e .next) es
+    record { event = e; number = numberOf (step r e .reply); value = valueOf (step r e .reply) } ∷ trace
+    (step r e .next) es

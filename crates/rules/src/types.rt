@@ -11,8 +11,8 @@ pub struct Settings {
     pub horizon: u64,
 }
 
-// One event, with the fields of a file's record: `span` is a due instant, an RTT, a timeout or a margin's bits, `id` a draw or an
-// identifier. A field that the kind does not have is not read.
+// One event, with the fields of a file's record: `span` is a due instant, an RTT, a timeout or a margin's bits, `id` a draw or
+// an identifier. A field that the kind does not have is not read.
 pub struct Event {
     pub now: u64,
     pub span: u64,
@@ -24,8 +24,8 @@ pub struct Event {
     pub flags: u8,
 }
 
-// The answer of an event: an identifier; in time, late, or the search probe's; a number of probes; lost now, or not; a slot; nothing to
-// say; or a refusal.
+// The answer of an event: an identifier; in time, late, or the search probe's; a number of probes; lost now, or not; a slot;
+// nothing to say; or a refusal.
 pub enum Reply {
     Id(u32),
     InTime,
@@ -39,16 +39,21 @@ pub enum Reply {
     Refused(Refusal),
 }
 
-// A slot, empty or with a path: its full size and what its open said of it.
-pub struct Slot {
-    pub path: Liveness,
+// What an open says of its path: its full size and its flags.
+pub struct Label {
     pub full: u16,
-    pub used: bool,
     pub pinned: bool,
     pub fits: bool,
     pub preferred: bool,
     pub medium: Medium,
     pub role: Role,
+}
+
+// A slot, empty or with a path and what its open said of it.
+pub struct Slot {
+    pub path: Liveness,
+    pub label: Label,
+    pub used: bool,
 }
 
 // The peer record.

@@ -23,7 +23,8 @@ use Rattle.script.specs.Run.{callFrom, callsOf, runOf, answersOf, bytesO
 use Rattle.script.specs.declared.types.Call.{Call}
 use Rattle.script.specs.declared.types.Called.{Called}
 
--- a script s, of which the calls before `at` have been carried out, their answers written over the front of l₀, and the path is p
+-- a script s, of which the calls before `at` have been carried out, their answers written over the front of l₀, and the
+-- path is p
 pub record Running (s l₀ l : List ℕ) (p : Liveness) (at : ℕ) : Type 0 where
   pub left : ℕ
   pub long : at + 48 * left ≡ length s

@@ -1,5 +1,5 @@
--- The calls of a script, by their numbers: each method's definition on the numbers of the call, and its answer as numbers. A number
--- wider than a method's parameter is taken modulo its width; a flag is set if its number is odd.
+-- The calls of a script, by their numbers: each method's definition on the numbers of the call, and its answer as
+-- numbers. A number wider than a method's parameter is taken modulo its width; a flag is set if its number is odd.
 use Prim.Native.Nat.{ℕ, _%_, _^_}
 use mathlib.Core.List.{List}
 use mathlib.Core.Bool.{Bool, true, cond}

@@ -1,0 +1,112 @@
+-- The examples, computed.
+-- Assumes nothing.
+use mathlib.Core.Path.{refl}
+use Rattle.rules.specs.Answers.{Right, AllRight, answers}
+use Rattle.examples.specs.Lists.{first, refused, eight, ordered, defers, lastData, overdue, thawed, reopened, proposals, acknowledged, twelve, upTo131, judges, tiers, lowest, scored, examples}
+
+right-first : Right first
+unfolding answers first
+right-first = refl
+
+right-refused : Right refused
+unfolding answers refused
+right-refused = refl
+
+right-eight : Right eight
+unfolding answers eight
+right-eight = refl
+
+right-ordered : Right ordered
+unfolding answers ordered
+right-ordered = refl
+
+right-defers : Right defers
+unfolding answers defers
+right-defers = refl
+
+right-lastData : Right lastData
+unfolding answers lastData
+right-lastData = refl
+
+right-overdue : Right overdue
+unfolding answers overdue
+right-overdue = refl
+
+right-thawed : Right thawed
+unfolding answers thawed
+right-thawed = refl
+
+right-reopened : Right reopened
+unfolding answers reopened
+right-reopened = refl
+
+right-proposals : Right proposals
+unfolding answers proposals
+right-proposals = refl
+
+right-acknowledged : Right acknowledged
+unfolding answers acknowledged
+right-acknowledged = refl
+
+right-twelve : Right twelve
+unfolding answers twelve
+right-twelve = refl
+
+right-upTo131 : Right upTo131
+unfolding answers upTo131
+right-upTo131 = refl
+
+right-judges : Right judges
+unfolding answers judges
+right-judges = refl
+
+right-tiers : Right tiers
+unfolding answers tiers
+right-tiers = refl
+
+right-lowest : Right lowest
+unfolding answers lowest
+right-lowest = refl
+
+right-scored : Right scored
+unfolding answers scored
+right-scored = refl
+
+pub all-right : AllRight examples
+all-right = (
+  right-first,
+  (
+    right-refused,
+    (
+      right-eight,
+      (
+        right-ordered,
+        (
+          right-defers,
+          (
+            right-lastData,
+            (
+              right-overdue,
+              (
+                right-thawed,
+                (
+                  right-reopened,
+                  (
+                    right-proposals,
+                    (
+                      right-acknowledged,
+                      (
+                        right-twelve,
+                        (right-upTo131, (right-judges, (right-tiers, (right-lowest, (right-scored, tt))))),
+                      ),
+                    ),
+                  ),
+                ),
+              ),
+            ),
+          ),
+        ),
+      ),
+    ),
+  ),
+)

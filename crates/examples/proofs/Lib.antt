@@ -1,0 +1,3 @@
+-- The examples, computed, and what demand 3 says of them.
+pub mod Computed
+pub mod Books

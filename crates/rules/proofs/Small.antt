@@ -1,0 +1,150 @@
+-- The smallest lists on which a clause of demand 3 could break, computed: each is named for the edit in must-fail/ that
+-- breaks
+-- it, so that what is refused first is the clause on its list.
+-- Assumes nothing.
+use Prim.Native.Nat.{ℕ}
+use mathlib.Core.Bool.{Bool, true, false}
+use mathlib.Core.Path.{_≡_, refl}
+use mathlib.Core.List.{List, [], _∷_, map}
+use Rattle.base.specs.Refusals.{refusalNumber}
+use Rattle.base.specs.declared.types.MaybeTime.the-variants as time
+use Rattle.ring.specs.Ring.{waiting}
+use Rattle.rules.specs.Answers.{event, settings, answers}
+use Rattle.rules.specs.Event.{bit, numberOf, valueOf}
+use Rattle.rules.specs.Rules.{refusals}
+use Rattle.rules.specs.Step.{freshRecord, run, step}
+use Rattle.rules.specs.Book.{answerSays, judgeSays, noted}
+use Rattle.rules.specs.Demand3.{Every, Sum, Stays, marksOf, searchOf, slotAfter, bookAfter}
+use Rattle.rules.specs.declared.types.Settings.{Settings}
+use Rattle.rules.specs.declared.types.Event.{Event}
+
+-- ---- events on slot 0, and settings
+
+abbrev opens : ℕ → ℕ → Event
+opens full flags = event 1 0 0 0 0 full 0 flags
+
+abbrev probe : Event
+probe = event 2 0 0 0 7 0 0 0
+
+abbrev answer : ℕ → Event
+answer id = event 3 0 0 0 id 0 0 0
+
+abbrev poll : Event
+poll = event 4 0 0 0 0 0 0 0
+
+abbrev prove : ℕ → Event
+prove size = event 7 0 0 0 0 size 0 0
+
+abbrev search : ℕ → Event
+search now = event 8 0 now 0 0 0 0 0
+
+abbrev judge : ℕ → Event
+judge timeout = event 9 0 0 timeout 0 0 0 0
+
+abbrev heard : Event
+heard = event 10 0 1 0 0 0 0 0
+
+-- cap 2, gap 3
+abbrev t : Settings
+t = settings 2 3 1 1
+
+-- ---- the clauses after a list
+
+abbrev Rings : List Event → Type 0
+Rings es = waiting (slotAfter t es 0 .path .ring) ≡ map (λ w. w .probe) (bookAfter t es 0 .probes .waiting)
+
+abbrev Marked : List Event → Type 0
+Marked es = marksOf (slotAfter t es 0 .used) (slotAfter t es 0 .label) ≡ bookAfter t es 0 .marks
+
+abbrev Searched : List Event → Type 0
+Searched es = searchOf (slotAfter t es 0 .path .sizes) ≡ bookAfter t es 0 .sizing .tally .search
+
+-- the value of one more event
+abbrev says : List Event → Event → ℕ
+says es e = valueOf (step (run (freshRecord t) es) e .reply)
+
+-- ---- sums: a poll of nothing; a sweep of one
+
+sums-poll : Sum (bookAfter t (opens 27 0 ∷ poll ∷ []) 0)
+unfolding answers noted
+sums-poll = refl
+
+sums-sweep : Sum (bookAfter t (opens 27 0 ∷ probe ∷ event 13 0 0 0 0 0 0 0 ∷ []) 0)
+unfolding answers noted
+sums-sweep = refl
+
+-- ---- rings: a probe; its answer; two lapses; a deferral
+
+rings-probe : Rings (opens 27 0 ∷ probe ∷ [])
+unfolding answers noted
+rings-probe = refl
+
+rings-answer : Rings (opens 27 0 ∷ probe ∷ answer 7 ∷ [])
+unfolding answers noted
+rings-answer = refl
+
+rings-once : Rings (opens 27 0 ∷ probe ∷ probe ∷ poll ∷ [])
+unfolding answers noted
+rings-once = refl
+
+rings-cap : Rings (opens 27 0 ∷ probe ∷ heard ∷ poll ∷ [])
+unfolding answers noted
+rings-cap = refl
+
+-- ---- polls: what is deferred waits with a due that has passed
+
+polls-due : Every (Stays t 0 false) (bookAfter t (opens 27 0 ∷ probe ∷ heard ∷ poll ∷ []) 0 .probes .waiting)
+unfolding answers noted
+polls-due = (refl, tt)
+
+-- ---- settled: a late answer; a judge before the timeout; a judge with no later answer
+
+settled-late : says (opens 27 0 ∷ probe ∷ poll ∷ []) (answer 7) ≡ answerSays
+    (bookAfter t (opens 27 0 ∷ probe ∷ poll ∷ []) 0) (answer 7)
+unfolding answers noted
+settled-late = refl
+
+abbrev sought : List Event
+sought = opens 60 0 ∷ prove 27 ∷ search 0 ∷ probe ∷ answer 1 ∷ []
+
+settled-early : says sought (judge 1) ≡ judgeSays (bookAfter t sought 0) (judge 1)
+unfolding answers noted
+settled-early = refl
+
+abbrev out : List Event
+out = opens 60 0 ∷ prove 27 ∷ search 0 ∷ []
+
+settled-judge : says out (judge 0) ≡ judgeSays (bookAfter t out 0) (judge 0)
+unfolding answers noted
+settled-judge = refl
+
+-- ---- agrees: an open's flags; fresh; what a search sends, and when
+
+agrees-fits : Marked (opens 27 32 ∷ [])
+unfolding answers noted
+agrees-fits = refl
+
+abbrev fresh : Event
+fresh = event 11 0 0 0 0 0 0 0
+
+agrees-fresh : Searched (opens 27 0 ∷ prove 27 ∷ fresh ∷ [])
+unfolding answers noted
+agrees-fresh = refl
+
+agrees-seek : Searched (opens 60 0 ∷ prove 27 ∷ search 0 ∷ fresh ∷ [])
+unfolding answers noted
+agrees-seek = refl
+
+agrees-full : Searched (opens 60 0 ∷ prove 27 ∷ search 0 ∷ probe ∷ answer 1 ∷ judge 0 ∷ search 3 ∷ [])
+unfolding answers noted
+agrees-full = refl
+
+-- ---- the refusals are tried in the table's order, 15 first
+order-kind : (used : Bool) (e : Event)
+    → map (λ x. refusalNumber (x .0)) (refusals used e) ≡ 15 ∷ 1 ∷ 2 ∷ 3 ∷ 4 ∷ 5 ∷ 6 ∷ []
+order-kind used e = refl
+
+-- the record's sent instant
+agrees-at : slotAfter t out 0 .path .sizes .seek .at ≡ time.Some (bookAfter t out 0 .sizing .probeAt)
+unfolding answers noted
+agrees-at = refl
