@@ -36,7 +36,8 @@ alike-same [] [] e = refl
 alike-same [] (y ∷ m) e = absurd (no-true e)
 alike-same (x ∷ l) [] e = absurd (no-true e)
 alike-same (x ∷ l) (y ∷ m) e =
-    let h : (eqb x y ≡ true) × (alike l m ≡ true) = both (eqb x y) (alike l m) e in λ i. eqb-true x y (h .0) i ∷ alike-same l m (h .1) i
+    let h : (eqb x y ≡ true) × (alike l m ≡ true) = both (eqb x y) (alike l m) e in
+    λ i. eqb-true x y (h .0) i ∷ alike-same l m (h .1) i
 
 -- what tells equal bytes from others is `alike`
 told : (r s : Bool) → (r ≡ true → s ≡ true) → (s ≡ true → r ≡ true) → r ≡ s
@@ -46,7 +47,8 @@ told false true f g = g refl
 told false false f g = refl
 
 pub alike-told : (l m : List ℕ) (r : Bool) → (r ≡ true → l ≡ m) × (l ≡ m → r ≡ true) → r ≡ alike l m
-alike-told l m r (f, g) = told r (alike l m) (λ e. ap (alike l) (sym (f e)) ∙ alike-self l) (λ e. g (alike-same l m e))
+alike-told l m r (f, g) =
+    told r (alike l m) (λ e. ap (alike l) (sym (f e)) ∙ alike-self l) (λ e. g (alike-same l m e))
 
 pub tail-from : (s : List ℕ) (at : ℕ) → midOf at (length s - at) s ≡ drop at s
 tail-from s at = take-all (length s - at) (drop at s) (le-of-eq (length-drop at s))

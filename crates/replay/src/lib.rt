@@ -1,5 +1,5 @@
-// Records of a fixed list of the Rust's answers: a record begins with its inputs, and ends with the answers that the unchanged Rust gave
-// to them. It agrees where the C functions give the same.
+// Records of a fixed list of the Rust's answers: a record begins with its inputs, and ends with the answers that the
+// unchanged Rust gave to them. It agrees where the C functions give the same.
 ghost use mathlib.Core.Path.{_≡_};
 ghost use mathlib.Core.Bool.{_&&_};
 ghost use Rattle.replay.specs.Replay.{isReply, scriptAgrees, chooseAgrees, bestAgrees, pairAgrees, countedOf};
@@ -41,7 +41,8 @@ fn choose_agrees(bytes: &[u8]) -> bool
     )
 }
 
-// Whether `best` of a field gives the number that stands behind the reply of `choose`, and writes the two numbers behind that.
+// Whether `best` of a field gives the number that stands behind the reply of `choose`, and writes the two numbers
+// behind that.
 fn best_agrees(bytes: &[u8]) -> bool
     ensures { λ r. ⌜ r ≡ bestAgrees (now (bytes .entry)) ⌝ }
 {

@@ -4,7 +4,12 @@
 use mathlib.Core.Path.{refl}
 use Rattle.total.specs.Values.{negative}
 use Rattle.rules.specs.Answers.{Right, AllRight, answers}
-use Rattle.samples.specs.Choice.{choice, sample210, sample211, sample212, sample213, sample214, sample215, sample216, sample217, sample218, sample219, sample220, sample221, sample222, sample223, sample224, sample225, sample226, sample227, sample228, sample229, sample230, sample231, sample232, sample233, sample234, sample235, sample236}
+use Rattle.samples.specs.Choice.{choice}
+use Rattle.samples.specs.Choice.{sample210, sample211, sample212, sample213, sample214, sample215}
+use Rattle.samples.specs.Choice.{sample216, sample217, sample218, sample219, sample220, sample221}
+use Rattle.samples.specs.Choice.{sample222, sample223, sample224, sample225, sample226, sample227}
+use Rattle.samples.specs.Choice.{sample228, sample229, sample230, sample231, sample232, sample233}
+use Rattle.samples.specs.Choice.{sample234, sample235, sample236}
 
 right210 : Right sample210
 unfolding answers negative sample210

@@ -4,7 +4,12 @@
 use mathlib.Core.Path.{refl}
 use Rattle.total.specs.Values.{negative}
 use Rattle.rules.specs.Answers.{Right, AllRight, answers}
-use Rattle.samples.specs.Clocks.{clocks, sample183, sample184, sample185, sample186, sample187, sample188, sample189, sample190, sample191, sample192, sample193, sample194, sample195, sample196, sample197, sample198, sample199, sample200, sample201, sample202, sample203, sample204, sample205, sample206, sample207, sample208, sample209}
+use Rattle.samples.specs.Clocks.{clocks}
+use Rattle.samples.specs.Clocks.{sample183, sample184, sample185, sample186, sample187, sample188}
+use Rattle.samples.specs.Clocks.{sample189, sample190, sample191, sample192, sample193, sample194}
+use Rattle.samples.specs.Clocks.{sample195, sample196, sample197, sample198, sample199, sample200}
+use Rattle.samples.specs.Clocks.{sample201, sample202, sample203, sample204, sample205, sample206}
+use Rattle.samples.specs.Clocks.{sample207, sample208, sample209}
 
 right183 : Right sample183
 unfolding answers negative sample183

@@ -4,7 +4,12 @@
 use mathlib.Core.Path.{refl}
 use Rattle.total.specs.Values.{negative}
 use Rattle.rules.specs.Answers.{Right, AllRight, answers}
-use Rattle.samples.specs.Damaged.{damaged, sample264, sample265, sample266, sample267, sample268, sample269, sample270, sample271, sample272, sample273, sample274, sample275, sample276, sample277, sample278, sample279, sample280, sample281, sample282, sample283, sample284, sample285, sample286, sample287, sample288, sample289, sample290}
+use Rattle.samples.specs.Damaged.{damaged}
+use Rattle.samples.specs.Damaged.{sample264, sample265, sample266, sample267, sample268, sample269}
+use Rattle.samples.specs.Damaged.{sample270, sample271, sample272, sample273, sample274, sample275}
+use Rattle.samples.specs.Damaged.{sample276, sample277, sample278, sample279, sample280, sample281}
+use Rattle.samples.specs.Damaged.{sample282, sample283, sample284, sample285, sample286, sample287}
+use Rattle.samples.specs.Damaged.{sample288, sample289, sample290}
 
 right264 : Right sample264
 unfolding answers negative sample264

@@ -4,7 +4,12 @@
 use mathlib.Core.Path.{refl}
 use Rattle.total.specs.Values.{negative}
 use Rattle.rules.specs.Answers.{Right, AllRight, answers}
-use Rattle.samples.specs.Late.{late, sample75, sample76, sample77, sample78, sample79, sample80, sample81, sample82, sample83, sample84, sample85, sample86, sample87, sample88, sample89, sample90, sample91, sample92, sample93, sample94, sample95, sample96, sample97, sample98, sample99, sample100, sample101}
+use Rattle.samples.specs.Late.{late}
+use Rattle.samples.specs.Late.{sample75, sample76, sample77, sample78, sample79, sample80}
+use Rattle.samples.specs.Late.{sample81, sample82, sample83, sample84, sample85, sample86}
+use Rattle.samples.specs.Late.{sample87, sample88, sample89, sample90, sample91, sample92}
+use Rattle.samples.specs.Late.{sample93, sample94, sample95, sample96, sample97, sample98}
+use Rattle.samples.specs.Late.{sample99, sample100, sample101}
 
 right75 : Right sample75
 unfolding answers negative sample75

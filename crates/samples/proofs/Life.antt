@@ -4,7 +4,12 @@
 use mathlib.Core.Path.{refl}
 use Rattle.total.specs.Values.{negative}
 use Rattle.rules.specs.Answers.{Right, AllRight, answers}
-use Rattle.samples.specs.Life.{life, sample21, sample22, sample23, sample24, sample25, sample26, sample27, sample28, sample29, sample30, sample31, sample32, sample33, sample34, sample35, sample36, sample37, sample38, sample39, sample40, sample41, sample42, sample43, sample44, sample45, sample46, sample47}
+use Rattle.samples.specs.Life.{life}
+use Rattle.samples.specs.Life.{sample21, sample22, sample23, sample24, sample25, sample26}
+use Rattle.samples.specs.Life.{sample27, sample28, sample29, sample30, sample31, sample32}
+use Rattle.samples.specs.Life.{sample33, sample34, sample35, sample36, sample37, sample38}
+use Rattle.samples.specs.Life.{sample39, sample40, sample41, sample42, sample43, sample44}
+use Rattle.samples.specs.Life.{sample45, sample46, sample47}
 
 right21 : Right sample21
 unfolding answers negative sample21

@@ -4,7 +4,11 @@
 use mathlib.Core.Path.{refl}
 use Rattle.total.specs.Values.{negative}
 use Rattle.rules.specs.Answers.{Right, AllRight, answers}
-use Rattle.samples.specs.Papers.{papers, sample0, sample1, sample2, sample3, sample4, sample5, sample6, sample7, sample8, sample9, sample10, sample11, sample12, sample13, sample14, sample15, sample16, sample17, sample18, sample19, sample20}
+use Rattle.samples.specs.Papers.{papers}
+use Rattle.samples.specs.Papers.{sample0, sample1, sample2, sample3, sample4, sample5}
+use Rattle.samples.specs.Papers.{sample6, sample7, sample8, sample9, sample10, sample11}
+use Rattle.samples.specs.Papers.{sample12, sample13, sample14, sample15, sample16, sample17}
+use Rattle.samples.specs.Papers.{sample18, sample19, sample20}
 
 right0 : Right sample0
 unfolding answers negative sample0

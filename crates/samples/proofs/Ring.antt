@@ -4,7 +4,12 @@
 use mathlib.Core.Path.{refl}
 use Rattle.total.specs.Values.{negative}
 use Rattle.rules.specs.Answers.{Right, AllRight, answers}
-use Rattle.samples.specs.Ring.{ring, sample48, sample49, sample50, sample51, sample52, sample53, sample54, sample55, sample56, sample57, sample58, sample59, sample60, sample61, sample62, sample63, sample64, sample65, sample66, sample67, sample68, sample69, sample70, sample71, sample72, sample73, sample74}
+use Rattle.samples.specs.Ring.{ring}
+use Rattle.samples.specs.Ring.{sample48, sample49, sample50, sample51, sample52, sample53}
+use Rattle.samples.specs.Ring.{sample54, sample55, sample56, sample57, sample58, sample59}
+use Rattle.samples.specs.Ring.{sample60, sample61, sample62, sample63, sample64, sample65}
+use Rattle.samples.specs.Ring.{sample66, sample67, sample68, sample69, sample70, sample71}
+use Rattle.samples.specs.Ring.{sample72, sample73, sample74}
 
 right48 : Right sample48
 unfolding answers negative sample48

@@ -4,7 +4,12 @@
 use mathlib.Core.Path.{refl}
 use Rattle.total.specs.Values.{negative}
 use Rattle.rules.specs.Answers.{Right, AllRight, answers}
-use Rattle.samples.specs.Samples.{samples, sample237, sample238, sample239, sample240, sample241, sample242, sample243, sample244, sample245, sample246, sample247, sample248, sample249, sample250, sample251, sample252, sample253, sample254, sample255, sample256, sample257, sample258, sample259, sample260, sample261, sample262, sample263}
+use Rattle.samples.specs.Samples.{samples}
+use Rattle.samples.specs.Samples.{sample237, sample238, sample239, sample240, sample241, sample242}
+use Rattle.samples.specs.Samples.{sample243, sample244, sample245, sample246, sample247, sample248}
+use Rattle.samples.specs.Samples.{sample249, sample250, sample251, sample252, sample253, sample254}
+use Rattle.samples.specs.Samples.{sample255, sample256, sample257, sample258, sample259, sample260}
+use Rattle.samples.specs.Samples.{sample261, sample262, sample263}
 
 right237 : Right sample237
 unfolding answers negative sample237

@@ -4,7 +4,12 @@
 use mathlib.Core.Path.{refl}
 use Rattle.total.specs.Values.{negative}
 use Rattle.rules.specs.Answers.{Right, AllRight, answers}
-use Rattle.samples.specs.Search.{search, sample129, sample130, sample131, sample132, sample133, sample134, sample135, sample136, sample137, sample138, sample139, sample140, sample141, sample142, sample143, sample144, sample145, sample146, sample147, sample148, sample149, sample150, sample151, sample152, sample153, sample154, sample155}
+use Rattle.samples.specs.Search.{search}
+use Rattle.samples.specs.Search.{sample129, sample130, sample131, sample132, sample133, sample134}
+use Rattle.samples.specs.Search.{sample135, sample136, sample137, sample138, sample139, sample140}
+use Rattle.samples.specs.Search.{sample141, sample142, sample143, sample144, sample145, sample146}
+use Rattle.samples.specs.Search.{sample147, sample148, sample149, sample150, sample151, sample152}
+use Rattle.samples.specs.Search.{sample153, sample154, sample155}
 
 right129 : Right sample129
 unfolding answers negative sample129

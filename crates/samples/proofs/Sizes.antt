@@ -4,7 +4,12 @@
 use mathlib.Core.Path.{refl}
 use Rattle.total.specs.Values.{negative}
 use Rattle.rules.specs.Answers.{Right, AllRight, answers}
-use Rattle.samples.specs.Sizes.{sizes, sample156, sample157, sample158, sample159, sample160, sample161, sample162, sample163, sample164, sample165, sample166, sample167, sample168, sample169, sample170, sample171, sample172, sample173, sample174, sample175, sample176, sample177, sample178, sample179, sample180, sample181, sample182}
+use Rattle.samples.specs.Sizes.{sizes}
+use Rattle.samples.specs.Sizes.{sample156, sample157, sample158, sample159, sample160, sample161}
+use Rattle.samples.specs.Sizes.{sample162, sample163, sample164, sample165, sample166, sample167}
+use Rattle.samples.specs.Sizes.{sample168, sample169, sample170, sample171, sample172, sample173}
+use Rattle.samples.specs.Sizes.{sample174, sample175, sample176, sample177, sample178, sample179}
+use Rattle.samples.specs.Sizes.{sample180, sample181, sample182}
 
 right156 : Right sample156
 unfolding answers negative sample156

@@ -4,7 +4,12 @@
 use mathlib.Core.Path.{refl}
 use Rattle.total.specs.Values.{negative}
 use Rattle.rules.specs.Answers.{Right, AllRight, answers}
-use Rattle.samples.specs.Wrap.{wrap, sample102, sample103, sample104, sample105, sample106, sample107, sample108, sample109, sample110, sample111, sample112, sample113, sample114, sample115, sample116, sample117, sample118, sample119, sample120, sample121, sample122, sample123, sample124, sample125, sample126, sample127, sample128}
+use Rattle.samples.specs.Wrap.{wrap}
+use Rattle.samples.specs.Wrap.{sample102, sample103, sample104, sample105, sample106, sample107}
+use Rattle.samples.specs.Wrap.{sample108, sample109, sample110, sample111, sample112, sample113}
+use Rattle.samples.specs.Wrap.{sample114, sample115, sample116, sample117, sample118, sample119}
+use Rattle.samples.specs.Wrap.{sample120, sample121, sample122, sample123, sample124, sample125}
+use Rattle.samples.specs.Wrap.{sample126, sample127, sample128}
 
 right102 : Right sample102
 unfolding answers negative sample102

@@ -1,10 +1,10 @@
-// Replays a fixed list of the unchanged Rust's answers. The list begins with three numbers of eight bytes: how many scripts, fields and
-// pairs of rivals follow, in this order, each with the Rust's answers behind it. Prints how many of each agree with ours, of how many, and
-// how many bytes stand behind the list (at most 24 are looked for).
+// Replays a fixed list of the unchanged Rust's answers. The list begins with three numbers of eight bytes: how many
+// scripts, fields and pairs of rivals follow, in this order, each with the Rust's answers behind it. Prints how many of
+// each agree with ours, of how many, and how many bytes stand behind the list (at most 24 are looked for).
 //
-// Whether a record is whole and agrees, and the count of those that do, stand in the contracts of `replay`. Left here, and stated by no
-// contract: that the bytes of standard input are read in their order, that each record is handed on once, and that these numbers are
-// printed.
+// Whether a record is whole and agrees, and the count of those that do, stand in the contracts of `replay`. Left here,
+// and stated by no contract: that the bytes of standard input are read in their order, that each record is handed on
+// once, and that these numbers are printed.
 use libc::STDIN_FILENO;
 use libc::STDOUT_FILENO;
 
