@@ -22,7 +22,7 @@ pub type Op = (&'static str, &'static [(&'static str, Arg)]);
 
 /// The calls, each at its number.
 #[rustfmt::skip]
-pub const OPS: [Op; 37] = [
+pub const OPS: [Op; 49] = [
     ("new", &[]),
     ("take_id", &[("draw", Draw)]),
     ("send", &[("at", At), ("due", Due), ("len", Len), ("draw", Draw)]),
@@ -60,6 +60,18 @@ pub const OPS: [Op; 37] = [
     ("max_rtt", &[]),
     ("base_rtt", &[]),
     ("earliest_due", &[]),
+    ("score", &[]),
+    ("steady", &[]),
+    ("misses", &[]),
+    ("rtt", &[]),
+    ("etx", &[]),
+    ("mtu", &[]),
+    ("frames", &[]),
+    ("bytes", &[]),
+    ("heard_at", &[]),
+    ("data_at", &[]),
+    ("quiet", &[]),
+    ("matching", &[("id", Id)]),
 ];
 
 /// A call's number by its name.

@@ -46,7 +46,9 @@ const LIFE: Flavour = Flavour {
         ("seek_proved", 2), ("seek_judge", 2), ("halt", 2), ("spend", 2), ("owe", 1),
         ("rebase", 1), ("timeout", 2), ("heard", 2), ("carried", 4), ("shed", 1), ("stopped", 1),
         ("held", 1), ("recheck", 1), ("outstanding", 1), ("samples", 1), ("min_rtt", 1),
-        ("max_rtt", 1), ("base_rtt", 1), ("earliest_due", 1),
+        ("max_rtt", 1), ("base_rtt", 1), ("earliest_due", 1), ("score", 1), ("steady", 1),
+        ("misses", 1), ("rtt", 1), ("etx", 1), ("mtu", 1), ("frames", 1), ("bytes", 1),
+        ("heard_at", 1), ("data_at", 1), ("quiet", 1), ("matching", 3),
     ],
     starts: &[0, 1, 1000, 5 * SECOND],
     steps: &[0, 1, 2, 50, MS, SECOND],
@@ -77,7 +79,7 @@ pub const FLAVOURS: [Flavour; 9] = [
         calls: &[
             ("send", 30), ("answer", 26), ("expire", 22), ("take_id", 6), ("lapse", 6),
             ("fresh", 6), ("thaw", 8), ("clear", 2), ("seek_send", 4), ("seek_answer", 4),
-            ("seek_judge", 6), ("size", 4),
+            ("seek_judge", 6), ("size", 4), ("matching", 8), ("misses", 4),
         ],
         draws: &[
             u64::MAX, 0xffff_fffe, 0xffff_fffb, 0x7fff_ffff, 0x7fff_fffd, 0x8000_0000, 0, 1,
@@ -114,7 +116,7 @@ pub const FLAVOURS: [Flavour; 9] = [
         seed: 6,
         calls: &[
             ("sample", 80), ("timeout", 4), ("min_rtt", 3), ("max_rtt", 3), ("base_rtt", 3),
-            ("samples", 3), ("fold", 6),
+            ("samples", 3), ("fold", 6), ("score", 6), ("steady", 6), ("rtt", 2), ("etx", 2),
         ],
         steps: &[0, 1, 2, 3, MS, SECOND],
         aimed: 15,
@@ -123,7 +125,9 @@ pub const FLAVOURS: [Flavour; 9] = [
     Flavour {
         name: "spans",
         seed: 7,
-        calls: &[("sample", 90), ("base_rtt", 5), ("timeout", 5)],
+        calls: &[
+            ("sample", 80), ("base_rtt", 5), ("timeout", 5), ("score", 6), ("steady", 6),
+        ],
         starts: &[0, 100, u64::MAX - 100, 1 << 63],
         steps: &[0, 0, 1, 2, 10],
         aimed: 50,

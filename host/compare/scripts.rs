@@ -17,6 +17,9 @@ const PAST: usize = 40;
 /// Runs that a difference is made smaller in.
 const TRIES: usize = 200_000;
 
+/// Numbers of calls that are counted apart: those there are, and one for all others.
+const CALLED: usize = OPS.len() + 1;
+
 /// What was compared.
 pub struct Scripts {
     pub scripts: u64,
@@ -24,7 +27,7 @@ pub struct Scripts {
     pub runs: u64,
     pub refused: u64,
     /// For each call's number: how often, and how often refused.
-    pub by_call: [(u64, u64); 38],
+    pub by_call: [(u64, u64); CALLED],
     /// Scripts by flavour.
     pub flavours: Vec<(&'static str, u64, u64)>,
 }
@@ -37,7 +40,7 @@ impl Scripts {
             calls: 0,
             runs: 0,
             refused: 0,
-            by_call: [(0, 0); 38],
+            by_call: [(0, 0); CALLED],
             flavours: Vec::new(),
         };
         for flavour in &FLAVOURS {
@@ -95,7 +98,7 @@ impl Scripts {
     }
 
     fn count(&mut self, call: &Call, reply: &Reply) {
-        let (calls, refused) = &mut self.by_call[call[0].min(37) as usize];
+        let (calls, refused) = &mut self.by_call[call[0].min(OPS.len() as u64) as usize];
         *calls += 1;
         *refused += u64::from(reply[0] != 0);
     }

@@ -57,6 +57,7 @@ pub mod proto {
         pub mod choice;
         pub mod live;
         pub mod params;
+        pub mod record;
         pub mod script;
         pub mod select;
 

@@ -1,7 +1,9 @@
 //! The reference of `hess_script`: a script of calls on one `Liveness`, run by the Rust's own
 //! methods. The refusals are the entries' (5 length, 6 duration, 8, 9, 10, 13, 15, 16).
 
+use super::choice::one_nan;
 use super::live::{Answer, Liveness, Sent};
+use super::select;
 use crate::time::{Duration, deadline};
 
 /// Words of a call and of its answer.
@@ -40,7 +42,7 @@ pub(super) fn length(word: u64) -> Result<usize, u64> {
 }
 
 /// A full or proved length: 5 below 27 too.
-fn whole(word: u64) -> Result<usize, u64> {
+pub(super) fn whole(word: u64) -> Result<usize, u64> {
     length(word).and_then(|len| if len < 27 { Err(5) } else { Ok(len) })
 }
 
@@ -55,6 +57,11 @@ pub(super) fn duration(word: u64) -> Result<Duration, u64> {
 
 fn flag(word: u64) -> bool {
     word % 2 == 1
+}
+
+/// A float's bits, every NaN as one.
+fn bits(x: f64) -> u64 {
+    one_nan(x.to_bits())
 }
 
 /// One path, and the calls that a script can make on it.
@@ -144,6 +151,21 @@ impl Path {
             34 => return some(live.max_rtt().map(|d| d.0)),
             35 => return some(live.base_rtt().map(|d| d.0)),
             36 => return some(live.earliest_due()),
+            37 => return some(select::score(live).map(bits)),
+            38 => return some(select::steady(live).map(bits)),
+            39 => return one(live.misses().into()),
+            40 => return some(live.rtt().map(|d| d.0)),
+            41 => return one(bits(live.etx())),
+            42 => return some(live.mtu().map(|len| len as u64)),
+            43 => return one(live.frames().into()),
+            44 => return one(live.bytes().into()),
+            45 => return some(live.heard_at()),
+            46 => return some(live.data_at()),
+            47 => return some(live.quiet()),
+            48 => {
+                let answer = live.answer(a as u32).ok_or(9u64)?;
+                return one(answer.matching().into());
+            }
             _ => return Err(15),
         }
         NOTHING

@@ -1,106 +1,252 @@
--- `vectors::main` meets its contract.
+-- `vectors::main` meets its contract: it never leaves its arrays.
 -- Assumes nothing.
 use borrow.Author.Needs.{needs}
-use Prim.Native.Nat.{_≤_}
 use mathlib.Core.Path.{_≡_}
 use lib.ListN.{length}
 use Rattle.vectors.proofs.main.Statement.{statement}
 use Rattle.vectors.proofs.main.Tie as tie
 
 abbrev Inv-loop : tie.InvT-loop
-Inv-loop record₀ out₀ turns₀ equal₀ left₀ t7 t8 t9 «record» out turns equal left = (length «record» ≡ 7944) × (length out ≡ 4872) × (turns ≤ 1000000)
+Inv-loop script₀ field pair scripts fields pairs equal₀ turns₀ t12 t13 t14 t15 t16 t17 t18 script equal turns =
+    length script ≡ 7944
 
 abbrev μ-loop : tie.MeasureT-loop
-μ-loop record₀ out₀ turns₀ equal₀ left₀ t7 t8 t9 «record» out turns equal left = turns
+μ-loop script₀ field pair scripts fields pairs equal₀ turns₀ t12 t13 t14 t15 t16 t17 t18 script equal turns =
+    turns
 
-loop-holds : tie.Need-loop-holds Inv-loop μ-loop
-loop-holds c = search needs
+abbrev Inv-loop2 : tie.InvT-loop2
+Inv-loop2 field₀ pair scripts fields pairs equal₀ turns₀ t14 t15 t16 t17 t18 field equal turns =
+    length field ≡ 816
 
-slice-aggregate-read-full : tie.Need-slice-aggregate-read-full Inv-loop μ-loop
+abbrev μ-loop2 : tie.MeasureT-loop2
+μ-loop2 field₀ pair scripts fields pairs equal₀ turns₀ t14 t15 t16 t17 t18 field equal turns =
+    turns
+
+abbrev Inv-loop3 : tie.InvT-loop3
+Inv-loop3 pair₀ scripts fields pairs equal₀ turns₀ t16 t17 t18 pair equal turns =
+    length pair ≡ 232
+
+abbrev μ-loop3 : tie.MeasureT-loop3
+μ-loop3 pair₀ scripts fields pairs equal₀ turns₀ t16 t17 t18 pair equal turns =
+    turns
+
+slice-aggregate-read-full :
+    tie.Need-slice-aggregate-read-full Inv-loop μ-loop Inv-loop2 μ-loop2 Inv-loop3 μ-loop3
 slice-aggregate-read-full c = search needs
 
-read-full-requires : tie.Need-read-full-requires Inv-loop μ-loop
+read-full-requires :
+    tie.Need-read-full-requires Inv-loop μ-loop Inv-loop2 μ-loop2 Inv-loop3 μ-loop3
 read-full-requires c κs = search needs
 
-sub-turns : tie.Need-sub-turns Inv-loop μ-loop
+slice-aggregate-get :
+    tie.Need-slice-aggregate-get Inv-loop μ-loop Inv-loop2 μ-loop2 Inv-loop3 μ-loop3
+slice-aggregate-get c = search needs
+
+get-requires : tie.Need-get-requires Inv-loop μ-loop Inv-loop2 μ-loop2 Inv-loop3 μ-loop3
+get-requires c κs = search needs
+
+slice-aggregate-get-2 :
+    tie.Need-slice-aggregate-get-2 Inv-loop μ-loop Inv-loop2 μ-loop2 Inv-loop3 μ-loop3
+slice-aggregate-get-2 c = search needs
+
+get-requires-2 : tie.Need-get-requires-2 Inv-loop μ-loop Inv-loop2 μ-loop2 Inv-loop3 μ-loop3
+get-requires-2 c κs = search needs
+
+slice-aggregate-get-3 :
+    tie.Need-slice-aggregate-get-3 Inv-loop μ-loop Inv-loop2 μ-loop2 Inv-loop3 μ-loop3
+slice-aggregate-get-3 c = search needs
+
+get-requires-3 : tie.Need-get-requires-3 Inv-loop μ-loop Inv-loop2 μ-loop2 Inv-loop3 μ-loop3
+get-requires-3 c κs = search needs
+
+loop-holds : tie.Need-loop-holds Inv-loop μ-loop Inv-loop2 μ-loop2 Inv-loop3 μ-loop3
+loop-holds c = search needs
+
+slice-aggregate-read-full-2 :
+    tie.Need-slice-aggregate-read-full-2 Inv-loop μ-loop Inv-loop2 μ-loop2 Inv-loop3 μ-loop3
+slice-aggregate-read-full-2 c = search needs
+
+read-full-requires-2 :
+    tie.Need-read-full-requires-2 Inv-loop μ-loop Inv-loop2 μ-loop2 Inv-loop3 μ-loop3
+read-full-requires-2 c κs = search needs
+
+slice-aggregate-script-agrees :
+    tie.Need-slice-aggregate-script-agrees Inv-loop μ-loop Inv-loop2 μ-loop2 Inv-loop3 μ-loop3
+slice-aggregate-script-agrees c = search needs
+
+script-agrees-requires :
+    tie.Need-script-agrees-requires Inv-loop μ-loop Inv-loop2 μ-loop2 Inv-loop3 μ-loop3
+script-agrees-requires c κs = search needs
+
+counted-requires : tie.Need-counted-requires Inv-loop μ-loop Inv-loop2 μ-loop2 Inv-loop3 μ-loop3
+counted-requires c κs = search needs
+
+sub-turns : tie.Need-sub-turns Inv-loop μ-loop Inv-loop2 μ-loop2 Inv-loop3 μ-loop3
 sub-turns c = search needs
 
-sub-run-script : tie.Need-sub-run-script Inv-loop μ-loop
-sub-run-script c = search needs
-
-part-run-script-start : tie.Need-part-run-script-start Inv-loop μ-loop
-part-run-script-start c = search needs
-
-part-run-script-end : tie.Need-part-run-script-end Inv-loop μ-loop
-part-run-script-end c = search needs
-
-slice-aggregate-run-script : tie.Need-slice-aggregate-run-script Inv-loop μ-loop
-slice-aggregate-run-script c = search needs
-
-run-script-requires : tie.Need-run-script-requires Inv-loop μ-loop
-run-script-requires c κs = search needs
-
-slice-aggregate-same : tie.Need-slice-aggregate-same Inv-loop μ-loop
-slice-aggregate-same c = search needs
-
-sub-same : tie.Need-sub-same Inv-loop μ-loop
-sub-same c = search needs
-
-part-same-start : tie.Need-part-same-start Inv-loop μ-loop
-part-same-start c = search needs
-
-part-same-end : tie.Need-part-same-end Inv-loop μ-loop
-part-same-end c = search needs
-
-same-requires : tie.Need-same-requires Inv-loop μ-loop
-same-requires c κs = search needs
-
-wrapping-add-u64-requires : tie.Need-wrapping-add-u64-requires Inv-loop μ-loop
-wrapping-add-u64-requires c κs = search needs
-
-loop-less : tie.Need-loop-less Inv-loop μ-loop
+loop-less : tie.Need-loop-less Inv-loop μ-loop Inv-loop2 μ-loop2 Inv-loop3 μ-loop3
 loop-less c = search needs
 
-loop-again : tie.Need-loop-again Inv-loop μ-loop
+loop-again : tie.Need-loop-again Inv-loop μ-loop Inv-loop2 μ-loop2 Inv-loop3 μ-loop3
 loop-again c = search needs
 
-loop-less-2 : tie.Need-loop-less-2 Inv-loop μ-loop
-loop-less-2 c = search needs
-
-loop-again-2 : tie.Need-loop-again-2 Inv-loop μ-loop
-loop-again-2 c = search needs
-
-print-decimal-requires : tie.Need-print-decimal-requires Inv-loop μ-loop
+print-decimal-requires :
+    tie.Need-print-decimal-requires Inv-loop μ-loop Inv-loop2 μ-loop2 Inv-loop3 μ-loop3
 print-decimal-requires c κs = search needs
 
-slice-aggregate-write-all : tie.Need-slice-aggregate-write-all Inv-loop μ-loop
+slice-aggregate-write-all :
+    tie.Need-slice-aggregate-write-all Inv-loop μ-loop Inv-loop2 μ-loop2 Inv-loop3 μ-loop3
 slice-aggregate-write-all c = search needs
 
-write-all-requires : tie.Need-write-all-requires Inv-loop μ-loop
+write-all-requires :
+    tie.Need-write-all-requires Inv-loop μ-loop Inv-loop2 μ-loop2 Inv-loop3 μ-loop3
 write-all-requires c κs = search needs
 
-sub-print-decimal : tie.Need-sub-print-decimal Inv-loop μ-loop
-sub-print-decimal c = search needs
-
-print-decimal-requires-2 : tie.Need-print-decimal-requires-2 Inv-loop μ-loop
+print-decimal-requires-2 :
+    tie.Need-print-decimal-requires-2 Inv-loop μ-loop Inv-loop2 μ-loop2 Inv-loop3 μ-loop3
 print-decimal-requires-2 c κs = search needs
 
-slice-aggregate-write-all-2 : tie.Need-slice-aggregate-write-all-2 Inv-loop μ-loop
+slice-aggregate-write-all-2 :
+    tie.Need-slice-aggregate-write-all-2 Inv-loop μ-loop Inv-loop2 μ-loop2 Inv-loop3 μ-loop3
 slice-aggregate-write-all-2 c = search needs
 
-write-all-requires-2 : tie.Need-write-all-requires-2 Inv-loop μ-loop
+write-all-requires-2 :
+    tie.Need-write-all-requires-2 Inv-loop μ-loop Inv-loop2 μ-loop2 Inv-loop3 μ-loop3
 write-all-requires-2 c κs = search needs
 
-print-decimal-requires-3 : tie.Need-print-decimal-requires-3 Inv-loop μ-loop
+loop2-holds : tie.Need-loop2-holds Inv-loop μ-loop Inv-loop2 μ-loop2 Inv-loop3 μ-loop3
+loop2-holds c = search needs
+
+slice-aggregate-read-full-3 :
+    tie.Need-slice-aggregate-read-full-3 Inv-loop μ-loop Inv-loop2 μ-loop2 Inv-loop3 μ-loop3
+slice-aggregate-read-full-3 c = search needs
+
+read-full-requires-3 :
+    tie.Need-read-full-requires-3 Inv-loop μ-loop Inv-loop2 μ-loop2 Inv-loop3 μ-loop3
+read-full-requires-3 c κs = search needs
+
+slice-aggregate-field-agrees :
+    tie.Need-slice-aggregate-field-agrees Inv-loop μ-loop Inv-loop2 μ-loop2 Inv-loop3 μ-loop3
+slice-aggregate-field-agrees c = search needs
+
+field-agrees-requires :
+    tie.Need-field-agrees-requires Inv-loop μ-loop Inv-loop2 μ-loop2 Inv-loop3 μ-loop3
+field-agrees-requires c κs = search needs
+
+counted-requires-2 :
+    tie.Need-counted-requires-2 Inv-loop μ-loop Inv-loop2 μ-loop2 Inv-loop3 μ-loop3
+counted-requires-2 c κs = search needs
+
+sub-turns-2 : tie.Need-sub-turns-2 Inv-loop μ-loop Inv-loop2 μ-loop2 Inv-loop3 μ-loop3
+sub-turns-2 c = search needs
+
+loop2-less : tie.Need-loop2-less Inv-loop μ-loop Inv-loop2 μ-loop2 Inv-loop3 μ-loop3
+loop2-less c = search needs
+
+loop2-again : tie.Need-loop2-again Inv-loop μ-loop Inv-loop2 μ-loop2 Inv-loop3 μ-loop3
+loop2-again c = search needs
+
+print-decimal-requires-3 :
+    tie.Need-print-decimal-requires-3 Inv-loop μ-loop Inv-loop2 μ-loop2 Inv-loop3 μ-loop3
 print-decimal-requires-3 c κs = search needs
 
-slice-aggregate-write-all-3 : tie.Need-slice-aggregate-write-all-3 Inv-loop μ-loop
+slice-aggregate-write-all-3 :
+    tie.Need-slice-aggregate-write-all-3 Inv-loop μ-loop Inv-loop2 μ-loop2 Inv-loop3 μ-loop3
 slice-aggregate-write-all-3 c = search needs
 
-write-all-requires-3 : tie.Need-write-all-requires-3 Inv-loop μ-loop
+write-all-requires-3 :
+    tie.Need-write-all-requires-3 Inv-loop μ-loop Inv-loop2 μ-loop2 Inv-loop3 μ-loop3
 write-all-requires-3 c κs = search needs
 
-returns : tie.Need-returns Inv-loop μ-loop
+print-decimal-requires-4 :
+    tie.Need-print-decimal-requires-4 Inv-loop μ-loop Inv-loop2 μ-loop2 Inv-loop3 μ-loop3
+print-decimal-requires-4 c κs = search needs
+
+slice-aggregate-write-all-4 :
+    tie.Need-slice-aggregate-write-all-4 Inv-loop μ-loop Inv-loop2 μ-loop2 Inv-loop3 μ-loop3
+slice-aggregate-write-all-4 c = search needs
+
+write-all-requires-4 :
+    tie.Need-write-all-requires-4 Inv-loop μ-loop Inv-loop2 μ-loop2 Inv-loop3 μ-loop3
+write-all-requires-4 c κs = search needs
+
+loop3-holds : tie.Need-loop3-holds Inv-loop μ-loop Inv-loop2 μ-loop2 Inv-loop3 μ-loop3
+loop3-holds c = search needs
+
+slice-aggregate-read-full-4 :
+    tie.Need-slice-aggregate-read-full-4 Inv-loop μ-loop Inv-loop2 μ-loop2 Inv-loop3 μ-loop3
+slice-aggregate-read-full-4 c = search needs
+
+read-full-requires-4 :
+    tie.Need-read-full-requires-4 Inv-loop μ-loop Inv-loop2 μ-loop2 Inv-loop3 μ-loop3
+read-full-requires-4 c κs = search needs
+
+slice-aggregate-pair-agrees :
+    tie.Need-slice-aggregate-pair-agrees Inv-loop μ-loop Inv-loop2 μ-loop2 Inv-loop3 μ-loop3
+slice-aggregate-pair-agrees c = search needs
+
+pair-agrees-requires :
+    tie.Need-pair-agrees-requires Inv-loop μ-loop Inv-loop2 μ-loop2 Inv-loop3 μ-loop3
+pair-agrees-requires c κs = search needs
+
+counted-requires-3 :
+    tie.Need-counted-requires-3 Inv-loop μ-loop Inv-loop2 μ-loop2 Inv-loop3 μ-loop3
+counted-requires-3 c κs = search needs
+
+sub-turns-3 : tie.Need-sub-turns-3 Inv-loop μ-loop Inv-loop2 μ-loop2 Inv-loop3 μ-loop3
+sub-turns-3 c = search needs
+
+loop3-less : tie.Need-loop3-less Inv-loop μ-loop Inv-loop2 μ-loop2 Inv-loop3 μ-loop3
+loop3-less c = search needs
+
+loop3-again : tie.Need-loop3-again Inv-loop μ-loop Inv-loop2 μ-loop2 Inv-loop3 μ-loop3
+loop3-again c = search needs
+
+print-decimal-requires-5 :
+    tie.Need-print-decimal-requires-5 Inv-loop μ-loop Inv-loop2 μ-loop2 Inv-loop3 μ-loop3
+print-decimal-requires-5 c κs = search needs
+
+slice-aggregate-write-all-5 :
+    tie.Need-slice-aggregate-write-all-5 Inv-loop μ-loop Inv-loop2 μ-loop2 Inv-loop3 μ-loop3
+slice-aggregate-write-all-5 c = search needs
+
+write-all-requires-5 :
+    tie.Need-write-all-requires-5 Inv-loop μ-loop Inv-loop2 μ-loop2 Inv-loop3 μ-loop3
+write-all-requires-5 c κs = search needs
+
+print-decimal-requires-6 :
+    tie.Need-print-decimal-requires-6 Inv-loop μ-loop Inv-loop2 μ-loop2 Inv-loop3 μ-loop3
+print-decimal-requires-6 c κs = search needs
+
+slice-aggregate-write-all-6 :
+    tie.Need-slice-aggregate-write-all-6 Inv-loop μ-loop Inv-loop2 μ-loop2 Inv-loop3 μ-loop3
+slice-aggregate-write-all-6 c = search needs
+
+write-all-requires-6 :
+    tie.Need-write-all-requires-6 Inv-loop μ-loop Inv-loop2 μ-loop2 Inv-loop3 μ-loop3
+write-all-requires-6 c κs = search needs
+
+slice-aggregate-read-full-5 :
+    tie.Need-slice-aggregate-read-full-5 Inv-loop μ-loop Inv-loop2 μ-loop2 Inv-loop3 μ-loop3
+slice-aggregate-read-full-5 c = search needs
+
+read-full-requires-5 :
+    tie.Need-read-full-requires-5 Inv-loop μ-loop Inv-loop2 μ-loop2 Inv-loop3 μ-loop3
+read-full-requires-5 c κs = search needs
+
+print-decimal-requires-7 :
+    tie.Need-print-decimal-requires-7 Inv-loop μ-loop Inv-loop2 μ-loop2 Inv-loop3 μ-loop3
+print-decimal-requires-7 c κs = search needs
+
+slice-aggregate-write-all-7 :
+    tie.Need-slice-aggregate-write-all-7 Inv-loop μ-loop Inv-loop2 μ-loop2 Inv-loop3 μ-loop3
+slice-aggregate-write-all-7 c = search needs
+
+write-all-requires-7 :
+    tie.Need-write-all-requires-7 Inv-loop μ-loop Inv-loop2 μ-loop2 Inv-loop3 μ-loop3
+write-all-requires-7 c κs = search needs
+
+returns : tie.Need-returns Inv-loop μ-loop Inv-loop2 μ-loop2 Inv-loop3 μ-loop3
 returns c = search needs
 
 pub main-spec : {M : Type 1} → statement M
@@ -109,33 +255,66 @@ main-spec =
     (tie.spec
     Inv-loop
     μ-loop
-    loop-holds
+    Inv-loop2
+    μ-loop2
+    Inv-loop3
+    μ-loop3
     slice-aggregate-read-full
     read-full-requires
+    slice-aggregate-get
+    get-requires
+    slice-aggregate-get-2
+    get-requires-2
+    slice-aggregate-get-3
+    get-requires-3
+    loop-holds
+    slice-aggregate-read-full-2
+    read-full-requires-2
+    slice-aggregate-script-agrees
+    script-agrees-requires
+    counted-requires
     sub-turns
-    sub-run-script
-    part-run-script-start
-    part-run-script-end
-    slice-aggregate-run-script
-    run-script-requires
-    slice-aggregate-same
-    sub-same
-    part-same-start
-    part-same-end
-    same-requires
-    wrapping-add-u64-requires
     loop-less
     loop-again
-    loop-less-2
-    loop-again-2
     print-decimal-requires
     slice-aggregate-write-all
     write-all-requires
-    sub-print-decimal
     print-decimal-requires-2
     slice-aggregate-write-all-2
     write-all-requires-2
+    loop2-holds
+    slice-aggregate-read-full-3
+    read-full-requires-3
+    slice-aggregate-field-agrees
+    field-agrees-requires
+    counted-requires-2
+    sub-turns-2
+    loop2-less
+    loop2-again
     print-decimal-requires-3
     slice-aggregate-write-all-3
     write-all-requires-3
+    print-decimal-requires-4
+    slice-aggregate-write-all-4
+    write-all-requires-4
+    loop3-holds
+    slice-aggregate-read-full-4
+    read-full-requires-4
+    slice-aggregate-pair-agrees
+    pair-agrees-requires
+    counted-requires-3
+    sub-turns-3
+    loop3-less
+    loop3-again
+    print-decimal-requires-5
+    slice-aggregate-write-all-5
+    write-all-requires-5
+    print-decimal-requires-6
+    slice-aggregate-write-all-6
+    write-all-requires-6
+    slice-aggregate-read-full-5
+    read-full-requires-5
+    print-decimal-requires-7
+    slice-aggregate-write-all-7
+    write-all-requires-7
     returns)

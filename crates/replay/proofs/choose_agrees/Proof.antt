@@ -1,0 +1,58 @@
+-- `replay::choose_agrees` meets its contract.
+-- Assumes nothing.
+use Rattle.replay.proofs.ReplayLaws.{choose-done}
+use borrow.Author.Tests.{ne-eqb}
+use Rattle.replay.specs.Replay.{chooseAgrees}
+use borrow.Author.Needs.{needs}
+use Rattle.replay.proofs.choose_agrees.Statement.{statement}
+use Rattle.replay.proofs.choose_agrees.Tie as tie
+
+returns : tie.Need-returns
+unfolding chooseAgrees
+returns c = rw (ne-eqb _ _ (c .if1 .taken))
+
+get-requires : tie.Need-get-requires
+get-requires c κs = search needs
+
+float-of-requires : tie.Need-float-of-requires
+float-of-requires c κs = search needs
+
+sub-hess-choose : tie.Need-sub-hess-choose
+sub-hess-choose c = search needs
+
+part-hess-choose-start : tie.Need-part-hess-choose-start
+part-hess-choose-start c = search needs
+
+part-hess-choose-end : tie.Need-part-hess-choose-end
+part-hess-choose-end c = search needs
+
+hess-choose-requires : tie.Need-hess-choose-requires
+hess-choose-requires c κs = search needs
+
+get-requires-2 : tie.Need-get-requires-2
+get-requires-2 c κs = search needs
+
+get-requires-3 : tie.Need-get-requires-3
+get-requires-3 c κs = search needs
+
+replies-requires : tie.Need-replies-requires
+replies-requires c κs = search needs
+
+returns-2 : tie.Need-returns-2
+returns-2 c = choose-done _ (c .before .before .before .before .before .before .before .if1 .left) (c .before .before .before .before .before .before .get .ensures) (c .before .before .before .before .before .float-of .ensures) (c .before .before .before .hess-choose .ensures) (c .before .before .get2 .ensures) (c .before .get3 .ensures) (c .replies .ensures)
+
+pub choose-agrees-spec : {M : Type 1} → statement M
+choose-agrees-spec =
+    tie.close
+    (tie.spec
+    returns
+    get-requires
+    float-of-requires
+    sub-hess-choose
+    part-hess-choose-start
+    part-hess-choose-end
+    hess-choose-requires
+    get-requires-2
+    get-requires-3
+    replies-requires
+    returns-2)

@@ -1,0 +1,2 @@
+-- The fixed list of the Rust's answers.
+pub mod Replay

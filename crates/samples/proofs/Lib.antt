@@ -1,0 +1,12 @@
+-- The lists computed, a file for each theme.
+pub mod Papers
+pub mod Life
+pub mod Ring
+pub mod Late
+pub mod Wrap
+pub mod Search
+pub mod Sizes
+pub mod Clocks
+pub mod Choice
+pub mod Samples
+pub mod Damaged
