@@ -12,8 +12,8 @@ use Rattle.samples.specs.Choice.{choice}
 use Rattle.samples.specs.Samples.{samples}
 use Rattle.samples.specs.Damaged.{damaged}
 
--- document 01's own lists; ordinary life; full rings and deferrals; late answers; identifiers at 2^32; searches to their
--- end; sizes; clocks at both ends; the choice; round trips; any numbers
+-- document 01's own lists; ordinary life; full rings and deferrals; late answers; identifiers at 2^32; searches to
+-- their end; sizes; clocks at both ends; the choice; round trips; any numbers
 pub record RustAnswers : Type 0 where
   pub papers-right : AllRight papers
   pub life-right : AllRight life
