@@ -6,7 +6,7 @@ use mathlib.Core.Path.{_≡_, refl, ap, _∙_}
 use mathlib.Core.List.{[], _∷_}
 use native.Mathlib.Omega.{arith}
 use lib.Dec.{leb, ltb}
-use lib.ListN.{length, length-map}
+use lib.ListN.{length, set, length-map}
 use borrow.Author.Tests.{ltb-false}
 use Rattle.base.proofs.Cases.{cond-cases}
 use Rattle.base.specs.Limits.{maxLen, isOverlong, isUndersize, isEndless}
@@ -16,14 +16,16 @@ use Rattle.base.specs.declared.types.MaybeId.{MaybeId}
 use Rattle.base.specs.declared.types.MaybeId.the-variants as mid
 use Rattle.base.proofs.BookLaws.{holds-kept}
 use Rattle.ring.specs.Ring.{noSent, isUsed, outstandingOf, firstFree, allCount}
-use Rattle.ring.specs.Ids.{takenOf}
+use Rattle.ring.specs.Ids.{takenOf, nextIds}
 use Rattle.ring.specs.declared.types.Ids.{Ids}
 use Rattle.seek.specs.declared.types.Sizes.{Sizes}
-use Rattle.live.specs.Path.{withTraffic}
-use Rattle.live.specs.Probe.{sendOf, sentAt}
+use Rattle.stop.specs.Silence.{quietFrom}
+use Rattle.live.specs.Path.{withRing, withSilence, withIds, withLadder, withTraffic}
+use Rattle.live.specs.Probe.{newSent, sentLadder, sendOf}
 use Rattle.live.specs.Times as times
 use Rattle.live.specs.declared.types.Traffic.{Traffic}
 use Rattle.live.specs.declared.types.Outcome.{Outcome}
+use Rattle.live.specs.declared.types.Answer.the-variants as answer
 use Rattle.live.specs.declared.types.Liveness.{Liveness}
 use Rattle.rules.specs.Rules.{emptySlot, turn, turnBy}
 use Rattle.rules.specs.Book.{Book, noMarks, marksBy, noted}
@@ -155,10 +157,20 @@ module _ (t : Settings) (s : Slot) (b₀ : Book) where
     idsWith since =
         record { «next_id» = p .ids .«next_id»; answered = p .ids .answered; epoch = p .ids .epoch; since = since }
 
+    -- the path and its answer once the probe is sent, with these identifiers before it
+    abbrev sentFrom : Ids → Outcome
+    sentFrom m =
+        let sent = newSent (takenOf (m .«next_id») (e₀ .id)) now (e₀ .span) size in
+        record {
+          path = withRing
+              (withIds (withLadder (withSilence p (quietFrom (p .silence) now)) (sentLadder (p .ladder) size))
+              (nextIds m (sent .«probe_id»)))
+              (set (p .ring) (firstFree (p .ring)) sent);
+          answer = answer.Id (sent .«probe_id»);
+        }
+
     -- whatever becomes of `since`
-    sent-kept : (since : MaybeId) → leb 8 (firstFree (p .ring)) ≡ false
-        → N 2 (turnBy s (sentAt p (firstFree (p .ring)) (idsWith since) (takenOf (p .ids .«next_id») (e₀ .id)) now
-        (e₀ .span) size))
+    sent-kept : (since : MaybeId) → leb 8 (firstFree (p .ring)) ≡ false → N 2 (turnBy s (sentFrom (idsWith since)))
     unfolding noted
     sent-kept since f few =
         record {
@@ -175,8 +187,7 @@ module _ (t : Settings) (s : Slot) (b₀ : Book) where
         cond-cases (λ (x : Outcome). N 2 (turnBy s x)) (isOverlong size) _ _ (λ f. no 2 refusal.Length)
         (λ f. cond-cases (λ (x : Outcome). N 2 (turnBy s x)) (leb 8 (firstFree (p .ring))) _ _ (λ g. no 2 refusal.Full)
         (λ g.
-        cond-cases (λ (m : Ids). N 2
-        (turnBy s (sentAt p (firstFree (p .ring)) m (takenOf (m .«next_id») (e₀ .id)) now (e₀ .span) size)))
+        cond-cases (λ (m : Ids). N 2 (turnBy s (sentFrom m)))
         (allCount (p .ids .since) (p .ring)) _ _
         (λ k. sent-kept mid.None g)
         (λ k. sent-kept (p .ids .since) g)))
