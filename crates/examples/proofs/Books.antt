@@ -14,7 +14,7 @@ use Rattle.rules.specs.Demand3.{Every, Carries, FewDraws, bookAfter, Demand3}
 use Rattle.rules.specs.declared.types.Reply.the-variants as reply
 use Rattle.rules.proofs.Premise.{few-draws}
 use Rattle.rules.proofs.Whole.{demand3}
-use Rattle.examples.specs.Lists.{second, first, refused, eight, ordered, defers, lastData, overdue, thawed, reopened, proposals, acknowledged, twelve, upTo131, judges, tiers, lowest, scored, examples}
+use Rattle.examples.specs.Lists.{second, first, refused, eight, ordered, defers, lastData, overdue, thawed, reopened, proposals, acknowledged, twelve, upTo131, judges, tiers, lowest, scored, equal, examples}
 use Rattle.base.specs.declared.types.MaybeLen.the-variants as len
 
 abbrev bookOf : Sample → Book
@@ -70,7 +70,7 @@ every-holds [] h = tt
 every-holds (s ∷ l) h = (holds s (h .0), every-holds l (h .1))
 
 short : Every Short examples
-unfolding first refused eight ordered defers lastData overdue thawed reopened proposals acknowledged twelve upTo131 judges tiers lowest scored
+unfolding first refused eight ordered defers lastData overdue thawed reopened proposals acknowledged twelve upTo131 judges tiers lowest scored equal
 short = (
   (omega arith, refl),
   (
@@ -101,7 +101,7 @@ short = (
                             (omega arith, refl),
                             (
                               (omega arith, refl),
-                              ((omega arith, refl), ((omega arith, refl), tt)),
+                              ((omega arith, refl), ((omega arith, refl), ((omega arith, refl), tt))),
                             ),
                           ),
                         ),

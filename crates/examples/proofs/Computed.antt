@@ -2,7 +2,7 @@
 -- Assumes nothing.
 use mathlib.Core.Path.{refl}
 use Rattle.rules.specs.Answers.{Right, AllRight, answers}
-use Rattle.examples.specs.Lists.{first, refused, eight, ordered, defers, lastData, overdue, thawed, reopened, proposals, acknowledged, twelve, upTo131, judges, tiers, lowest, scored, examples}
+use Rattle.examples.specs.Lists.{first, refused, eight, ordered, defers, lastData, overdue, thawed, reopened, proposals, acknowledged, twelve, upTo131, judges, tiers, lowest, scored, equal, examples}
 
 right-first : Right first
 unfolding answers first
@@ -72,6 +72,10 @@ right-scored : Right scored
 unfolding answers scored
 right-scored = refl
 
+right-equal : Right equal
+unfolding answers equal
+right-equal = refl
+
 pub all-right : AllRight examples
 all-right = (
   right-first,
@@ -97,7 +101,7 @@ all-right = (
                       right-acknowledged,
                       (
                         right-twelve,
-                        (right-upTo131, (right-judges, (right-tiers, (right-lowest, (right-scored, tt))))),
+                        (right-upTo131, (right-judges, (right-tiers, (right-lowest, (right-scored, (right-equal, tt)))))),
                       ),
                     ),
                   ),

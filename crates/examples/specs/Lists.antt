@@ -282,8 +282,17 @@ scored =
       given = (0, 0) ∷ (0, 0) ∷ (0, 0) ∷ (0, 0) ∷ (0, 0) ∷ (0, 1) ∷ [];
     }
 
+-- equal scores: the lower slot
+unfoldable pub equal : Sample
+equal =
+    record {
+      settings = second;
+      events = opens 0 100 0 ∷ opens 1 100 0 ∷ sample 0 5000000 ∷ sample 1 5000000 ∷ choose one ∷ [];
+      given = (0, 0) ∷ (0, 0) ∷ (0, 0) ∷ (0, 0) ∷ (0, 0) ∷ [];
+    }
+
 abbrev pub examples : List Sample
 examples =
     first ∷ refused ∷ eight ∷ ordered ∷ defers ∷ lastData ∷ overdue ∷ thawed ∷ reopened ∷ proposals ∷ acknowledged
     ∷ twelve ∷ upTo131 ∷
-    judges ∷ tiers ∷ lowest ∷ scored ∷ []
+    judges ∷ tiers ∷ lowest ∷ scored ∷ equal ∷ []

@@ -151,7 +151,7 @@ agrees-at : slotAfter t out 0 .path .sizes .seek .at ≡ time.Some (bookAfter t 
 unfolding answers noted
 agrees-at = refl
 
--- ---- chosen: not slot 0, if it is not open; tier 0 takes part; a pinned one before a higher tier; a margin of 1 is allowed
+-- ---- chosen: not slot 0, if it is not open; tier 0 takes part; a pinned one before a higher tier; margin 1 is allowed
 
 abbrev opensAt : ℕ → ℕ → Event
 opensAt slot flags = event 1 slot 0 0 0 27 0 flags

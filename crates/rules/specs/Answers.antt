@@ -3,7 +3,7 @@ use Prim.Native.Nat.{ℕ}
 use mathlib.Core.List.{List, [], _∷_}
 use mathlib.Core.Path.{_≡_}
 use lib.Ieee.{ofBits, le, isNan, mul, add, sub, div, ofInt}
-use Rattle.total.specs.Values.{totalOf}
+use Rattle.total.specs.Values.{negative, totalOf}
 use Rattle.etx.specs.Etx.{foldOf, scoreOf, qualityOf}
 use Rattle.rtt.specs.Samples.{minRtt, withSample}
 use Rattle.rtt.specs.Spans.{baseRtt, spanOf}
@@ -36,7 +36,7 @@ numbers [] = []
 numbers (x ∷ l) = (x .number, x .value) ∷ numbers l
 
 unfoldable pub answers : Settings → List Event → List (ℕ × ℕ)
-unfolding ofBits le isNan mul add sub div ofInt totalOf foldOf scoreOf qualityOf minRtt withSample baseRtt spanOf outstandingOf sendOf answerOf expireOf proveOf seekSizeOf seekSendOf seekAnswerOf seekProvedOf seekJudgeOf sampleOf heardOf proposalOf search.searchSize search.sentSearch search.settledSearch search.ackedSearch search.judgedSearch rankedOf pickedOf onSlot choiceOf step
+unfolding ofBits le isNan mul add sub div ofInt negative totalOf foldOf scoreOf qualityOf minRtt withSample baseRtt spanOf outstandingOf sendOf answerOf expireOf proveOf seekSizeOf seekSendOf seekAnswerOf seekProvedOf seekJudgeOf sampleOf heardOf proposalOf search.searchSize search.sentSearch search.settledSearch search.ackedSearch search.judgedSearch rankedOf pickedOf onSlot choiceOf step
 answers t es = numbers (trace (freshRecord t) es)
 
 -- a list with the answers that it should get, and that it gets them
