@@ -14,7 +14,7 @@ use lib.Seq.{take-all}
 use Rattle.octets.specs.Octets.{readAt}
 use Rattle.fields.specs.Fields.{floatOf}
 use Rattle.script.specs.Run.{scriptNumber, scriptOut}
-use Rattle.entries.specs.Choice.{chooseReply, bestNumberOf, bestOut}
+use Rattle.entries.specs.Choice.{chooseReply, bestReply, bestOut}
 use Rattle.entries.specs.declared.Reply.{Reply}
 use Rattle.replay.specs.Replay.{alike, isReply, scriptAgrees, chooseAgrees, bestAgrees}
 
@@ -81,7 +81,7 @@ choose-done s n b m e x y z = rw (eq-eqb _ _ n, z, x, y, e, m, b)
 -- the best of a field, and what is written of it
 pub best-done : (s : List ℕ) {out tail : List ℕ} {number given : ℕ} {same : Bool}
     → length s ≡ 816
-    → number ≡ bestNumberOf (take 768 s) 16
+    → number ≡ bestReply (take 768 s) 16
     → given ≡ readAt 792 8 s
     → out ≡ bestOut (take 768 s) (replicate 16 0)
     → tail ≡ drop 800 s

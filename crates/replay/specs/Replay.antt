@@ -9,7 +9,7 @@ use lib.ListN.{length, take, drop, replicate}
 use Rattle.octets.specs.Octets.{readAt}
 use Rattle.fields.specs.Fields.{floatOf}
 use Rattle.script.specs.Run.{scriptNumber, scriptOut}
-use Rattle.entries.specs.Choice.{chooseReply, bestNumberOf, bestOut, heldFrom, waitsFrom}
+use Rattle.entries.specs.Choice.{chooseReply, bestReply, bestOut, heldFrom, waitsFrom}
 use Rattle.entries.specs.declared.Reply.{Reply}
 
 -- the same bytes
@@ -45,7 +45,7 @@ chooseAgrees s =
 unfoldable pub bestAgrees : List ℕ → Bool
 bestAgrees s =
     cond (eqb (length s) 816)
-    (eqb (bestNumberOf (take 768 s) 16) (readAt 792 8 s) && alike (bestOut (take 768 s) (replicate 16 0)) (drop 800 s))
+    (eqb (bestReply (take 768 s) 16) (readAt 792 8 s) && alike (bestOut (take 768 s) (replicate 16 0)) (drop 800 s))
     false
 
 -- A pair (192), a margin (8), number and value of `held` and of `waits` (32): `hess_held` and `hess_waits` reply as the
