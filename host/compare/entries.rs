@@ -1,11 +1,31 @@
 //! Our C functions: libentries.a. A C `bool` comes back as a byte, so that any but 0 and 1 shows.
 
+use oracle::proto::path::choice::one_nan;
+
 /// A refusal number, 0 if accepted, and a value.
 #[repr(C)]
 #[derive(Clone, Copy, Debug, PartialEq, Eq)]
 pub struct Reply {
     pub number: u64,
     pub value: u64,
+}
+
+/// The same where the value is a float.
+#[repr(C)]
+#[derive(Clone, Copy, Debug)]
+pub struct FloatReply {
+    pub number: u64,
+    pub value: f64,
+}
+
+impl FloatReply {
+    /// With the value's bits, every NaN as one.
+    pub fn bits(self) -> Reply {
+        Reply {
+            number: self.number,
+            value: one_nan(self.value.to_bits()),
+        }
+    }
 }
 
 unsafe extern "C" {
@@ -16,7 +36,7 @@ unsafe extern "C" {
     pub safe fn hess_quality_index(etx: f64, rtt_ms: f64) -> f64;
     pub safe fn hess_clamp(x: f64, lo: f64, hi: f64) -> f64;
     pub safe fn hess_max(x: f64, y: f64) -> f64;
-    pub safe fn hess_seconds(ns: u64) -> f64;
+    pub safe fn hess_seconds(ns: u64) -> FloatReply;
     pub safe fn hess_total_bits(a: u64, b: u64) -> u8;
     pub safe fn hess_total(a: f64, b: f64) -> u8;
     pub safe fn hess_size(full: u32, fallen: bool, held: bool, last: u32) -> Reply;
@@ -44,7 +64,7 @@ unsafe extern "C" {
     fn hess_held(pair: *const u8, len: usize, margin: f64) -> Reply;
     fn hess_waits(pair: *const u8, len: usize, margin: f64) -> Reply;
     pub safe fn hess_hold(at: u64, reports: u8, now: u64, dwell: u64) -> Reply;
-    pub safe fn hess_score(etx: f64, rtt: u64) -> f64;
+    pub safe fn hess_score(etx: f64, rtt: u64) -> FloatReply;
     pub safe fn hess_tier(role: u64) -> u64;
     pub safe fn hess_quicker(a: u64, b: u64) -> u8;
     pub safe fn hess_carried(link: u32, held: bool, proven: u32, oriented: bool) -> Reply;

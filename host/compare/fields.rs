@@ -12,7 +12,7 @@ use crate::rivals::{
 };
 use oracle::proto::path::choice::{
     BEST, FIELD, Nans, PAIR, Pair, WORDS, best_of, carried_of, choose_of, held_of, hold_of,
-    one_nan, quicker_of, score_of, tier_of, waits_of,
+    quicker_of, score_of, tier_of, waits_of,
 };
 use std::collections::BTreeMap;
 use std::fmt::Debug;
@@ -359,9 +359,8 @@ impl Fields {
                 0 => self.rng.wide(),
                 _ => self.rng.below(2_000_000_000),
             };
-            let value = one_nan(hess_score(etx, rtt).to_bits());
             for rust in score_of(etx, rtt) {
-                self.same("score", (etx, rtt), Reply { number: 0, value }, (0, rust));
+                self.same("score", (etx, rtt), hess_score(etx, rtt).bits(), rust);
             }
         }
     }

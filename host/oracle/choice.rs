@@ -142,12 +142,15 @@ pub fn best_of(bytes: &[u8], lent: usize, nans: Nans) -> Answer<[u64; 2]> {
     Ok(best.map_or([0, 0], |score| [1, one_nan(score.to_bits())]))
 }
 
-/// `hess_score`: the bits of `score` and `steady` of a path with this ETX and one sample.
-pub fn score_of(etx: f64, rtt: u64) -> [u64; 2] {
+/// `hess_score`: numbers and bits of `score` and `steady` of a path with this ETX and one sample.
+pub fn score_of(etx: f64, rtt: u64) -> [Pair; 2] {
+    let Ok(rtt) = duration(rtt) else {
+        return [(6, 0); 2];
+    };
     let mut path = Liveness::with_etx(etx);
-    path.sample(0, Duration(rtt), Duration(0), Duration(0));
+    path.sample(0, rtt, Duration(0), Duration(0));
     [select::score(&path), select::steady(&path)].map(|score| match score {
-        Some(score) => one_nan(score.to_bits()),
+        Some(score) => (0, one_nan(score.to_bits())),
         None => panic!("a path with a sample has a score"),
     })
 }

@@ -214,6 +214,11 @@ pub fn deadline_of(t: u64, d: u64) -> (u64, u64) {
     duration(d).map_or_else(|no| (no, 0), |d| (0, deadline(t, d)))
 }
 
+/// `hess_seconds`: number and the value's bits.
+pub fn seconds_of(ns: u64) -> (u64, u64) {
+    duration(ns).map_or_else(|no| (no, 0), |d| (0, d.as_secs_f64().to_bits()))
+}
+
 /// `hess_size`: number and value.
 pub fn size_of(full: u32, fallen: bool, held: bool, last: u32) -> (u64, u64) {
     let size = || {
