@@ -59,8 +59,8 @@ fullLost n full = lost (searched (proven n) full)
 abbrev pub sizeOut : Liveness → ℕ
 sizeOut p = p .sizes .seek .len
 
--- rest after a clearing, as it shows: the size out, the lost size, the refusal of `seek_size` 1 ns before 600 s, its size
--- at 600 s
+-- rest after a clearing, as it shows: the size out, the lost size, the refusal of `seek_size` 1 ns before 600 s, its
+-- size at 600 s
 abbrev pub restOf : Liveness → ℕ → List ℕ
 restOf p full =
     sizeOut p ∷

@@ -1,8 +1,9 @@
 // The choice over a field of given rivals, and the best score.
 ghost use mathlib.Core.Path.{_≡_};
-ghost use Rattle.select.specs.Scans.{scanOf};
-ghost use Rattle.select.specs.declared.types.Want.the-variants.{Quicker};
+ghost use Rattle.select.specs.Passes.{scanOf};
+ghost use Rattle.select.specs.declared.passes.Want.the-variants.{Quicker};
 ghost use Rattle.select.specs.Choice.{limitOf, orElse, pickedOf, chooseOf, bestOf};
+use crate::passes::*;
 use crate::types::*;
 use base::types::Refusal;
 
@@ -23,7 +24,8 @@ fn limit(best: Rival, margin: f64) -> f64
     best.score * margin
 }
 
-// A rival near the best over a quicker medium than that of `pick`, preferred ones only where `only` says so, else `pick`.
+// A rival near the best over a quicker medium than that of `pick`, preferred ones only where `only` says so, else
+// `pick`.
 fn replaced(
     field: [Rival; PATH_MAX_PER_PEER],
     g: Gate,

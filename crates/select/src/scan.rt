@@ -1,7 +1,8 @@
 // One scan of the field: the first, in an order, of the rivals that it looks for.
 ghost use mathlib.Core.Path.{_≡_};
 ghost use Rattle.select.specs.Rivals.{byScore, tripOf, byTrip};
-ghost use Rattle.select.specs.Scans.{takesOf, beforeOf, betterIn, scanOf};
+ghost use Rattle.select.specs.Passes.{takesOf, beforeOf, betterIn, scanOf};
+use crate::passes::*;
 use crate::types::*;
 
 // The order by score, then index: strictly before.
