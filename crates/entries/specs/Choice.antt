@@ -35,7 +35,7 @@ use Rattle.select.specs.declared.types.SizeAnswer.{SizeAnswer}
 use Rattle.select.specs.declared.types.Hold.{Hold}
 use Rattle.fields.specs.Fields.{rivalLen, fieldLen, pairLen, rivalFrom, fieldOf}
 use Rattle.entries.specs.declared.Reply.{Reply}
-use Rattle.entries.specs.Entries.{refused, maybeLen}
+use Rattle.entries.specs.Entries.{refusedReply, maybeLen}
 
 -- the place chosen
 abbrev pub chosenReply : Chosen → Reply
@@ -43,7 +43,7 @@ chosenReply a = record { number = chosenNumber a; value = chosenValue a }
 
 -- 13 for bytes that are not a field
 unfoldable pub chooseReply : List ℕ → Float → Reply
-chooseReply s margin = cond (eqb (length s) fieldLen) (chosenReply (chooseOf (fieldOf s) margin)) (refused Cut)
+chooseReply s margin = cond (eqb (length s) fieldLen) (chosenReply (chooseOf (fieldOf s) margin)) (refusedReply Cut)
 
 -- two numbers for the best score: whether there is one, and its bits
 abbrev pub bestWords : BestAnswer → List ℕ
@@ -76,11 +76,11 @@ heldReply a = record { number = heldNumber a; value = heldValue a }
 -- the rivals `to` and `from`; 13 for bytes that are not a pair
 unfoldable pub heldFrom : List ℕ → Float → Reply
 heldFrom s margin =
-    cond (eqb (length s) pairLen) (heldReply (heldOf (rivalFrom s) (rivalFrom (drop rivalLen s)) margin)) (refused Cut)
+    cond (eqb (length s) pairLen) (heldReply (heldOf (rivalFrom s) (rivalFrom (drop rivalLen s)) margin)) (refusedReply Cut)
 
 unfoldable pub waitsFrom : List ℕ → Float → Reply
 waitsFrom s margin =
-    cond (eqb (length s) pairLen) (heldReply (waitsOf (rivalFrom s) (rivalFrom (drop rivalLen s)) margin)) (refused Cut)
+    cond (eqb (length s) pairLen) (heldReply (waitsOf (rivalFrom s) (rivalFrom (drop rivalLen s)) margin)) (refusedReply Cut)
 
 -- so many reports, one after the other
 abbrev pub reportsOf : ℕ → Hold → Hold
@@ -103,4 +103,4 @@ sizedReply a = record { number = sizeNumber a; value = sizeValue a }
 -- 5 for a proven size above 65,535, if held
 unfoldable pub carriedReply : ℕ → Bool → ℕ → Bool → Reply
 carriedReply link held proven oriented =
-    cond (held && isOverlong proven) (refused Length) (sizedReply (carriedFrame link (maybeLen held proven) oriented))
+    cond (held && isOverlong proven) (refusedReply Length) (sizedReply (carriedFrame link (maybeLen held proven) oriented))

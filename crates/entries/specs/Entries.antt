@@ -20,8 +20,8 @@ use Rattle.entries.specs.declared.Reply.{Reply}
 use Rattle.entries.specs.declared.FloatReply.{FloatReply}
 
 -- a refusal, and a number that is given
-abbrev pub refused : Refusal → Reply
-refused why = record { number = refusalNumber why; value = 0 }
+abbrev pub refusedReply : Refusal → Reply
+refusedReply why = record { number = refusalNumber why; value = 0 }
 
 abbrev pub given : ℕ → Reply
 given x = record { number = 0; value = x }
@@ -35,7 +35,7 @@ givenFloat x = record { number = 0; value = x }
 
 -- 6 for a duration of 2 ^ 62 or more
 unfoldable pub deadlineReply : ℕ → ℕ → Reply
-deadlineReply t d = cond (isEndless d) (refused Duration) (given (deadlineOf 64 t d))
+deadlineReply t d = cond (isEndless d) (refusedReply Duration) (given (deadlineOf 64 t d))
 
 unfoldable pub secondsReply : ℕ → FloatReply
 secondsReply ns = cond (isEndless ns) (noFloat Duration) (givenFloat (secondsOf ns))
@@ -57,7 +57,7 @@ isOutside full last = isOverlong full || (isUndersize full || isOverlong last)
 
 -- 5 for a full size above 65,535 or below 27, or a last size above 65,535
 unfoldable pub sizeReply : ℕ → Bool → Bool → ℕ → Reply
-sizeReply full fallen held last = cond (isOutside full last) (refused Length)
+sizeReply full fallen held last = cond (isOutside full last) (refusedReply Length)
     (given (ladderSize (ladderOf fallen held last) full))
 
 -- a number that may be missing
@@ -67,4 +67,4 @@ maybeOf held x = cond held (time.Some x) time.None
 -- 6 for a floor or cap of 2 ^ 62 or more
 unfoldable pub timeoutReply : ℕ → ℕ → MaybeTime → MaybeTime → Reply
 timeoutReply floor cap last largest =
-    cond (isEndless floor || isEndless cap) (refused Duration) (given (timeoutBy last largest floor cap))
+    cond (isEndless floor || isEndless cap) (refusedReply Duration) (given (timeoutBy last largest floor cap))

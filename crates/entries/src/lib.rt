@@ -9,7 +9,7 @@ ghost use Rattle.total.specs.Total.{totalAt};
 ghost use Rattle.total.specs.Values.{totalOf, clampOf, maxOf};
 ghost use Rattle.etx.specs.Etx.{foldOf, qualityOf};
 ghost use Rattle.script.specs.Run.{scriptNumber, scriptOut};
-ghost use Rattle.entries.specs.Entries.{refused, given, noFloat, givenFloat, deadlineReply, secondsReply};
+ghost use Rattle.entries.specs.Entries.{refusedReply, given, noFloat, givenFloat, deadlineReply, secondsReply};
 ghost use Rattle.entries.specs.Entries.{scoreReply, isOutside, sizeReply, timeoutReply, ladderOf, maybeLen};
 ghost use Rattle.entries.specs.Entries.{maybeOf};
 use base::limits::DURATION_END;
@@ -36,7 +36,7 @@ pub struct FloatReply {
 
 // A refusal.
 pub fn refuse(why: Refusal) -> Reply
-    ensures { λ r. ⌜ r ≡ refused why ⌝ }
+    ensures { λ r. ⌜ r ≡ refusedReply why ⌝ }
 {
     Reply {
         number: why.number(),

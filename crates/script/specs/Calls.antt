@@ -18,7 +18,7 @@ use Rattle.live.specs.Times.{rebasedOf}
 use Rattle.live.specs.declared.types.Liveness.{Liveness}
 use Rattle.image.specs.Image.{etxBits}
 use Rattle.scores.specs.Scores.{pathScore, pathSteady}
-use Rattle.script.specs.Answers.{answered, outcome, plain, kindless, valued, timed, sized, scored, matched}
+use Rattle.script.specs.Answers.{answered, outcome, plain, kindless, valued, timed, sized, scoreCalled, matched}
 use Rattle.script.specs.declared.types.Call.{Call}
 use Rattle.script.specs.declared.types.Called.{Called}
 
@@ -101,8 +101,8 @@ readCall p c =
 -- 37 score, 38 steady, 39 misses, 40 rtt, 41 etx by its pattern, 42 mtu
 unfoldable pub scoreCall : Liveness → Call → Called
 scoreCall p c =
-    cond (eqb (c .op) 37) (scored p (pathScore p))
-    (cond (eqb (c .op) 38) (scored p (pathSteady p))
+    cond (eqb (c .op) 37) (scoreCalled p (pathScore p))
+    (cond (eqb (c .op) 38) (scoreCalled p (pathSteady p))
     (cond (eqb (c .op) 39) (valued p (p .misses))
     (cond (eqb (c .op) 40) (timed p (p .rtts .rtt))
     (cond (eqb (c .op) 41) (valued p (etxBits (p .etx)))

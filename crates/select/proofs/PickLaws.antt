@@ -23,7 +23,7 @@ use Rattle.select.specs.Choice.{
   bestScore,
   bestOf,
 }
-use Rattle.select.specs.Passes.{lacksOf, gateOf, scanOf}
+use Rattle.select.specs.Passes.{lacksOf, gateOf, firstTaken}
 use Rattle.select.specs.declared.types.Rival.{Rival}
 use Rattle.select.specs.declared.passes.Gate.{Gate}
 use Rattle.select.specs.declared.types.MaybeRival.{MaybeRival}
@@ -41,26 +41,26 @@ use Rattle.select.proofs.RankLaws.{
   scan-timed,
 }
 
-module _ (l : List Rival) {g : Gate} {first : MaybeRival} (e : g ≡ gateOf l) (f : first ≡ scanOf (Scored g) l) where
+module _ (l : List Rival) {g : Gate} {first : MaybeRival} (e : g ≡ gateOf l) (f : first ≡ firstTaken (Scored g) l) where
   -- what the scan for the least score found
   pub first-is : firstBy byScore (scoredOf (rankedOf l)) ≡ first
-  first-is = scan-scored l ∙ ap (λ (x : Gate). scanOf (Scored x) l) (sym e) ∙ sym f
+  first-is = scan-scored l ∙ ap (λ (x : Gate). firstTaken (Scored x) l) (sym e) ∙ sym f
 
   module _ (margin : Float) where
     module _ {least : Rival} {second : MaybeRival} {x : Float} (h : first ≡ Some least) (y : x ≡ limitOf least margin)
-        (s : second ≡ scanOf (Preferred g x) l) where
+        (s : second ≡ firstTaken (Preferred g x) l) where
       -- what the scan for a preferred one found
       second-is : pickedOf l margin ≡ quickest (nearOf (limitOf least margin) (rankedOf l)) least second
       unfolding pickedOf
       second-is =
           ap (amongRanked (rankedOf l) margin) (first-is ∙ h)
           ∙ ap (quickest (nearOf (limitOf least margin) (rankedOf l)) least)
-          (scan-preferred (limitOf least margin) l ∙ ap (λ (x : Gate). scanOf (Preferred x (limitOf least margin)) l)
-          (sym e) ∙ ap (λ (z : Float). scanOf (Preferred g z) l) (sym y) ∙ sym s)
+          (scan-preferred (limitOf least margin) l ∙ ap (λ (x : Gate). firstTaken (Preferred x (limitOf least margin)) l)
+          (sym e) ∙ ap (λ (z : Float). firstTaken (Preferred g z) l) (sym y) ∙ sym s)
 
       -- one was picked
       pub picked-preferred : {p : Rival} {third k : MaybeRival} → second ≡ Some p
-          → third ≡ scanOf (Quicker g (limitOf least margin) true (p .medium)) l → k ≡ orElse third p
+          → third ≡ firstTaken (Quicker g (limitOf least margin) true (p .medium)) l → k ≡ orElse third p
           → k ≡ pickedOf l margin
       picked-preferred {p} {third} {k} i t o =
           o
@@ -69,12 +69,12 @@ module _ (l : List Rival) {g : Gate} {first : MaybeRival} (e : g ≡ gateOf l) (
           ∙ ap (quickest (nearOf (limitOf least margin) (rankedOf l)) least) i
           ∙ ap (λ (x : MaybeRival). orElse x p)
           (scan-preferred-quick (limitOf least margin) (p .medium) l
-          ∙ ap (λ (x : Gate). scanOf (Quicker x (limitOf least margin) true (p .medium)) l) (sym e)
+          ∙ ap (λ (x : Gate). firstTaken (Quicker x (limitOf least margin) true (p .medium)) l) (sym e)
           ∙ sym t))
 
       -- none was
       pub picked-plain : {third k : MaybeRival} → second ≡ None
-          → third ≡ scanOf (Quicker g (limitOf least margin) false (least .medium)) l → k ≡ orElse third least
+          → third ≡ firstTaken (Quicker g (limitOf least margin) false (least .medium)) l → k ≡ orElse third least
           → k ≡ pickedOf l margin
       picked-plain {third} {k} i t o =
           o
@@ -83,15 +83,15 @@ module _ (l : List Rival) {g : Gate} {first : MaybeRival} (e : g ≡ gateOf l) (
           ∙ ap (quickest (nearOf (limitOf least margin) (rankedOf l)) least) i
           ∙ ap (λ (x : MaybeRival). orElse x least)
           (scan-quick (limitOf least margin) (least .medium) l
-          ∙ ap (λ (x : Gate). scanOf (Quicker x (limitOf least margin) false (least .medium)) l) (sym e)
+          ∙ ap (λ (x : Gate). firstTaken (Quicker x (limitOf least margin) false (least .medium)) l) (sym e)
           ∙ sym t))
 
     -- none has a score
-    pub picked-timed : {k : MaybeRival} → first ≡ None → k ≡ scanOf (Timed g) l → k ≡ pickedOf l margin
+    pub picked-timed : {k : MaybeRival} → first ≡ None → k ≡ firstTaken (Timed g) l → k ≡ pickedOf l margin
     unfolding pickedOf
     picked-timed {k} h t =
         t
-        ∙ ap (λ (x : Gate). scanOf (Timed x) l) e
+        ∙ ap (λ (x : Gate). firstTaken (Timed x) l) e
         ∙ sym (ap (amongRanked (rankedOf l) margin) (first-is ∙ h) ∙ scan-timed l)
 
 -- ---- the refusals and the answers
@@ -144,7 +144,7 @@ module _ (l : List Rival) where
       ∙ ap (λ (b : Bool). cond (not b) (best.Refused Index) (bestScore (firstBy byScore (scoredOf (rankedOf l))))) p)
 
   pub best-score : {g : Gate} {k x : MaybeRival} → every (lacksOf test.Long) l ≡ true → placed 0 l ≡ true → g ≡ gateOf l
-      → k ≡ scanOf (Scored g) l → k ≡ x → bestScore x ≡ bestOf l
+      → k ≡ firstTaken (Scored g) l → k ≡ x → bestScore x ≡ bestOf l
   unfolding bestOf
   best-score {g} {k} {x} e p i f h =
       sym

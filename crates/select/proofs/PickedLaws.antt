@@ -1,6 +1,7 @@
--- What each pick of the choice is, by one law of `firstBy`: the best has the least score, of equals the lowest index; the
--- preferred pick is near and the first such; the quicker one is near, quicker, and the first by medium, score, index.
--- And of every choice: with a score among the ranked the picked one is the best or near it, else the first by RTT.
+-- What each pick of the choice is, by one law of `firstBy`: the best has the least score, of equals the lowest index;
+-- the preferred pick is near and the first such; the quicker one is near, quicker, and the first by medium, score,
+-- index. And of every choice: with a score among the ranked the picked one is the best or near it, else the first by
+-- RTT.
 -- Assumes nothing.
 use Prim.Native.Nat.{ℕ, _≤_}
 use mathlib.Core.Path.{_≡_, refl, subst}

@@ -22,7 +22,7 @@ use Rattle.select.specs.Choice.{
   quickOf,
   isLongHeld,
 }
-use Rattle.select.specs.Passes.{isNamed, isRanked, lacksOf, gateOf, takesOf, scanOf}
+use Rattle.select.specs.Passes.{isNamed, isRanked, lacksOf, gateOf, takesOf, firstTaken}
 use Rattle.select.specs.declared.types.Rival.{Rival}
 use Rattle.select.specs.declared.types.Medium.{Medium}
 use Rattle.select.specs.declared.passes.Test.the-variants as test
@@ -114,21 +114,21 @@ near-preferred-quick limit m l =
     only true false d = refl
     only false b d = refl
 
-pub scan-scored : (l : List Rival) → firstBy byScore (scoredOf (rankedOf l)) ≡ scanOf (Scored (gateOf l)) l
+pub scan-scored : (l : List Rival) → firstBy byScore (scoredOf (rankedOf l)) ≡ firstTaken (Scored (gateOf l)) l
 scan-scored l = ap (firstBy byScore) (scored-is l)
 
 pub scan-preferred : (limit : Float) (l : List Rival)
-    → firstBy byScore (preferredOf (nearOf limit (rankedOf l))) ≡ scanOf (Preferred (gateOf l) limit) l
+    → firstBy byScore (preferredOf (nearOf limit (rankedOf l))) ≡ firstTaken (Preferred (gateOf l) limit) l
 scan-preferred limit l = ap (firstBy byScore) (near-preferred limit l)
 
 pub scan-quick : (limit : Float) (m : Medium) (l : List Rival)
-    → firstBy byMedium (quickOf m (nearOf limit (rankedOf l))) ≡ scanOf (Quicker (gateOf l) limit false m) l
+    → firstBy byMedium (quickOf m (nearOf limit (rankedOf l))) ≡ firstTaken (Quicker (gateOf l) limit false m) l
 scan-quick limit m l = ap (firstBy byMedium) (near-quick limit m l)
 
 pub scan-preferred-quick : (limit : Float) (m : Medium) (l : List Rival)
-    → firstBy byMedium (quickOf m (preferredOf (nearOf limit (rankedOf l)))) ≡ scanOf (Quicker (gateOf l) limit true m)
+    → firstBy byMedium (quickOf m (preferredOf (nearOf limit (rankedOf l)))) ≡ firstTaken (Quicker (gateOf l) limit true m)
     l
 scan-preferred-quick limit m l = ap (firstBy byMedium) (near-preferred-quick limit m l)
 
-pub scan-timed : (l : List Rival) → firstBy byTrip (rankedOf l) ≡ scanOf (Timed (gateOf l)) l
+pub scan-timed : (l : List Rival) → firstBy byTrip (rankedOf l) ≡ firstTaken (Timed (gateOf l)) l
 scan-timed l = ap (firstBy byTrip) (ranked-is l)

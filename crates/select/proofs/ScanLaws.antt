@@ -5,7 +5,7 @@ use mathlib.Core.List.{List, map, foldl}
 use Rattle.base.specs.Seq.{keep}
 use Rattle.base.proofs.KeepLaws.{map-same}
 use Rattle.base.proofs.FirstLaws.{Strict, pass-first}
-use Rattle.select.specs.Passes.{takesOf, beforeOf, betterOf, betterIn, scanOf}
+use Rattle.select.specs.Passes.{takesOf, beforeOf, betterOf, betterIn, firstTaken}
 use Rattle.select.specs.declared.types.Rival.{Rival}
 use Rattle.select.specs.declared.types.MaybeRival.{MaybeRival}
 use Rattle.select.specs.declared.types.MaybeRival.the-variants.{None, Some}
@@ -21,7 +21,7 @@ scan-strict (want.Quicker g limit only m) = medium-strict
 scan-strict (want.Timed g) = trip-strict
 
 pub scan-pass : (w : Want) (l : List Rival) {k : MaybeRival}
-    → k ≡ foldl (betterIn w) None (map (λ (r : Rival). r) (keep (takesOf w) l)) → k ≡ scanOf w l
+    → k ≡ foldl (betterIn w) None (map (λ (r : Rival). r) (keep (takesOf w) l)) → k ≡ firstTaken w l
 scan-pass w l e =
     e
     ∙ ap (λ (m : List Rival). foldl (betterIn w) None m) (map-same (keep (takesOf w) l))

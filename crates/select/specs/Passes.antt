@@ -76,5 +76,5 @@ abbrev pub betterIn : Want → MaybeRival → Rival → MaybeRival
 betterIn w f r = betterOf (beforeOf w) f r
 
 -- what a scan finds
-abbrev pub scanOf : Want → List Rival → MaybeRival
-scanOf w l = firstBy (beforeOf w) (keep (takesOf w) l)
+abbrev pub firstTaken : Want → List Rival → MaybeRival
+firstTaken w l = firstBy (beforeOf w) (keep (takesOf w) l)

@@ -1,6 +1,6 @@
 // The choice over a field of given rivals, and the best score.
 ghost use mathlib.Core.Path.{_≡_};
-ghost use Rattle.select.specs.Passes.{scanOf};
+ghost use Rattle.select.specs.Passes.{firstTaken};
 ghost use Rattle.select.specs.declared.passes.Want.the-variants.{Quicker};
 ghost use Rattle.select.specs.Choice.{limitOf, orElse, pickedOf, chooseOf, bestOf};
 use crate::passes::*;
@@ -34,7 +34,7 @@ fn replaced(
     pick: Rival,
     only: bool,
 ) -> MaybeRival
-    ensures { λ k. ⌜ k ≡ orElse (scanOf (Quicker g (limitOf best margin) only (pick .medium)) field) pick ⌝ }
+    ensures { λ k. ⌜ k ≡ orElse (firstTaken (Quicker g (limitOf best margin) only (pick .medium)) field) pick ⌝ }
 {
     let near = limit(best, margin);
     let m = pick.medium;
