@@ -17,7 +17,7 @@ use Rattle.ring.specs.Ring.{noSent, isUsed}
 use Rattle.select.specs.Choice.{pickedOf}
 use Rattle.rules.specs.Event.{Kind, Answer, Judge, Choose, kindNumber, is, numberOf, valueOf}
 use Rattle.rules.specs.Rules.{emptySlot, turn, onSlot}
-use Rattle.rules.specs.Step.{Entry, freshRecord, allowed, slotAt, put, rivalsFrom, marginOf, choiceOf, step, run, trace}
+use Rattle.rules.specs.Step.{Entry, freshRecord, allowed, slotAt, put, rivalsAt, marginOf, choiceOf, step, run, trace}
 use Rattle.rules.specs.Book.{Book, Books, newBook, noMarks, noted, blanks, note, noteAll, answerSays, judgeSays}
 use Rattle.rules.specs.Demand3.{Clause, Each, Once, Polled, AtMost, Rested, Chosen, Settled, Few, FewDraws, Demand3, Demand3Holds}
 use Rattle.rules.specs.declared.types.Settings.{Settings}
@@ -104,8 +104,8 @@ module _ (t : Settings) (small : allowed t ≡ true) (r : Record) (bs : Books) (
           λ a. not-both Judge Choose (a .2) q (λ (z : 9 ≡ 15). omega arith),
         );
         chosen = λ c m. rw m
-            (chooses r bs (λ j. g .slots j .agrees) (pickedOf (rivalsFrom 0 (r .slots)) (marginOf e))
-            (picked-from (rivalsFrom 0 (r .slots)) (marginOf e)));
+            (chooses r bs (λ j. g .slots j .agrees) (pickedOf (rivalsAt 0 (r .slots)) (marginOf e))
+            (picked-from (rivalsAt 0 (r .slots)) (marginOf e)));
       }
 
   -- ---- all other events do their work on one slot

@@ -8,12 +8,8 @@ use lib.ListN.{getD, set, replicate}
 use Rattle.base.specs.Limits.{isEndless}
 use Rattle.base.specs.Seq.{every}
 use Rattle.base.specs.declared.types.Refusal.the-variants as refusal
-use Rattle.base.specs.declared.types.MaybeTime.{MaybeTime}
-use Rattle.base.specs.declared.types.MaybeTime.the-variants as time
 use Rattle.rtt.specs.Spans.{baseRtt}
-use Rattle.scores.specs.Scores.{pathScore, pathSteady}
-use Rattle.scores.specs.declared.MaybeScore.{MaybeScore}
-use Rattle.scores.specs.declared.MaybeScore.the-variants as score
+use Rattle.scores.specs.Scores.{pathScore, pathSteady, scoreIn, isScored, timeIn, isTimed}
 use Rattle.select.specs.Media.{tierOf}
 use Rattle.select.specs.Choice.{pickedOf}
 use Rattle.select.specs.declared.types.Rival.{Rival}
@@ -50,22 +46,6 @@ put r i t = record { next = record { settings = r .settings; slots = set (r .slo
 
 -- ---- choose
 
-abbrev pub scoreIn : MaybeScore → Float
-scoreIn score.None = ofBits binary64 0
-scoreIn (score.Some x) = x
-
-abbrev pub isScored : MaybeScore → Bool
-isScored score.None = false
-isScored (score.Some x) = true
-
-abbrev pub timeIn : MaybeTime → ℕ
-timeIn time.None = 0
-timeIn (time.Some t) = t
-
-abbrev pub isTimed : MaybeTime → Bool
-isTimed time.None = false
-isTimed (time.Some t) = true
-
 -- a slot as a rival, under its number
 abbrev pub rivalOf : ℕ → Slot → Rival
 rivalOf i s =
@@ -88,9 +68,9 @@ rivalOf i s =
     }
 
 -- the slots from number i on
-abbrev pub rivalsFrom : ℕ → List Slot → List Rival
-rivalsFrom i [] = []
-rivalsFrom i (s ∷ l) = rivalOf i s ∷ rivalsFrom (suc i) l
+abbrev pub rivalsAt : ℕ → List Slot → List Rival
+rivalsAt i [] = []
+rivalsAt i (s ∷ l) = rivalOf i s ∷ rivalsAt (suc i) l
 
 -- "7: margin not finite or below 1"
 abbrev pub isMargin : Float → Bool
@@ -111,7 +91,7 @@ choiceOf r e =
     record {
       next = r;
       reply = cond (isMargin (marginOf e))
-          (choiceReply (pickedOf (rivalsFrom 0 (r .slots)) (marginOf e))) (reply.Refused refusal.Margin);
+          (choiceReply (pickedOf (rivalsAt 0 (r .slots)) (marginOf e))) (reply.Refused refusal.Margin);
     }
 
 -- ---- events
