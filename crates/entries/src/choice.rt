@@ -2,13 +2,17 @@
 ghost use mathlib.Core.Path.{_≡_};
 ghost use lib.ListN.{length};
 ghost use mathlib.Core.List.{[], _∷_};
-ghost use Rattle.etx.specs.Etx.{scoreOf};
 ghost use Rattle.octets.specs.Octets.{over, wordsOf};
-ghost use Rattle.select.specs.Media.{tierOf, quickerOf};
-ghost use Rattle.fields.specs.Fields.{mediumOf, roleOf};
-ghost use Rattle.entries.specs.Choice.{chosenReply, chooseReply, lentNumber, bestNumberOf, bestOut, heldReply, heldFrom, waitsFrom, reportsOf, holdReply, costReply, sizedReply, maybeSize, carriedReply};
+ghost use Rattle.select.specs.Media.{tierOf, quickerOf, mediumOf, roleOf};
+ghost use Rattle.entries.specs.Choice.{chosenReply, chooseReply, lentNumber, bestReply, bestOut, heldReply};
+ghost use Rattle.entries.specs.Choice.{heldFrom, waitsFrom, reportsOf, holdReply, costReply, sizedReply};
+ghost use Rattle.entries.specs.Choice.{carriedReply};
 use crate::Reply;
+use base::limits::MAX_LEN;
 use base::types::*;
+use fields::FIELD_LEN;
+use fields::PAIR_LEN;
+use fields::RIVAL_LEN;
 use select::types::*;
 
 // The place chosen, or the refusal.
@@ -16,27 +20,18 @@ fn of_chosen(answer: Chosen) -> Reply
     ensures { λ r. ⌜ r ≡ chosenReply answer ⌝ }
 {
     match answer {
-        Chosen::Slot(n) => Reply {
-            number: 0,
-            value: n as u64,
-        },
-        Chosen::Refused(why) => Reply {
-            number: why.number(),
-            value: 0,
-        },
+        Chosen::Slot(n) => crate::give(n as u64),
+        Chosen::Refused(why) => crate::refuse(why),
     }
 }
 
-// The place of the path that `choose` takes of a field of 768 bytes.
+// The place of the path that `choose` takes of a field.
 #[no_mangle]
 pub extern "C" fn hess_choose(field: &[u8], margin: f64) -> Reply
     ensures { λ r. ⌜ r ≡ chooseReply (now (field .entry)) margin ⌝ }
 {
-    if field.len() != 768 {
-        return Reply {
-            number: 13,
-            value: 0,
-        };
+    if field.len() != FIELD_LEN {
+        return crate::refuse(Refusal::Cut);
     }
     let rivals = fields::field_from(field);
     of_chosen(select::choice::choose(rivals, margin))
@@ -44,22 +39,26 @@ pub extern "C" fn hess_choose(field: &[u8], margin: f64) -> Reply
 
 // Writes two numbers into the lent bytes, or says 16 and writes nothing.
 fn put_best(out: &mut [u8], tag: u64, bits: u64) -> u64
-    ensures { λ r. ⌜ (r ≡ lentNumber (length (now (out .entry)))) × (now (out .exit) ≡ over (wordsOf (tag ∷ bits ∷ [])) (now (out .entry))) ⌝ }
+    ensures { λ r. ⌜ (r ≡ lentNumber (length (now (out .entry))))
+        × (now (out .exit) ≡ over (wordsOf (tag ∷ bits ∷ [])) (now (out .entry))) ⌝ }
 {
     let words = [tag, bits];
     if octets::put_words(out, &words) {
         return 0;
     }
-    16
+    let why = Refusal::Lent;
+    why.number()
 }
 
 // Writes whether there is a best score, and its bits.
 #[no_mangle]
 pub extern "C" fn hess_best(field: &[u8], out: &mut [u8]) -> u64
-    ensures { λ r. ⌜ (r ≡ bestNumberOf (now (field .entry)) (length (now (out .entry)))) × (now (out .exit) ≡ bestOut (now (field .entry)) (now (out .entry))) ⌝ }
+    ensures { λ r. ⌜ (r ≡ bestReply (now (field .entry)) (length (now (out .entry))))
+        × (now (out .exit) ≡ bestOut (now (field .entry)) (now (out .entry))) ⌝ }
 {
-    if field.len() != 768 {
-        return 13;
+    if field.len() != FIELD_LEN {
+        let why = Refusal::Cut;
+        return why.number();
     }
     let rivals = fields::field_from(field);
     match select::choice::best(rivals) {
@@ -69,31 +68,14 @@ pub extern "C" fn hess_best(field: &[u8], out: &mut [u8]) -> u64
     }
 }
 
-// The score of a path by its ETX and its least round trip.
-#[no_mangle]
-pub extern "C" fn hess_score(etx: f64, rtt: u64) -> f64
-    ensures { λ r. ⌜ r ≡ scoreOf etx rtt ⌝ }
-{
-    scores::quality(etx, rtt)
-}
-
 // Whether a change is held, or the refusal.
 fn of_held(answer: HeldAnswer) -> Reply
     ensures { λ r. ⌜ r ≡ heldReply answer ⌝ }
 {
     match answer {
-        HeldAnswer::Held => Reply {
-            number: 0,
-            value: 1,
-        },
-        HeldAnswer::Free => Reply {
-            number: 0,
-            value: 0,
-        },
-        HeldAnswer::Refused(why) => Reply {
-            number: why.number(),
-            value: 0,
-        },
+        HeldAnswer::Held => crate::give(1),
+        HeldAnswer::Free => crate::give(0),
+        HeldAnswer::Refused(why) => crate::refuse(why),
     }
 }
 
@@ -102,14 +84,11 @@ fn of_held(answer: HeldAnswer) -> Reply
 pub extern "C" fn hess_held(pair: &[u8], margin: f64) -> Reply
     ensures { λ r. ⌜ r ≡ heldFrom (now (pair .entry)) margin ⌝ }
 {
-    if pair.len() != 192 {
-        return Reply {
-            number: 13,
-            value: 0,
-        };
+    if pair.len() != PAIR_LEN {
+        return crate::refuse(Refusal::Cut);
     }
     let to = fields::rival_from(pair);
-    let from = fields::rival_from(&pair[96..]);
+    let from = fields::rival_from(&pair[RIVAL_LEN..]);
     of_held(select::hold::held(to, from, margin))
 }
 
@@ -118,14 +97,11 @@ pub extern "C" fn hess_held(pair: &[u8], margin: f64) -> Reply
 pub extern "C" fn hess_waits(pair: &[u8], margin: f64) -> Reply
     ensures { λ r. ⌜ r ≡ waitsFrom (now (pair .entry)) margin ⌝ }
 {
-    if pair.len() != 192 {
-        return Reply {
-            number: 13,
-            value: 0,
-        };
+    if pair.len() != PAIR_LEN {
+        return crate::refuse(Refusal::Cut);
     }
     let to = fields::rival_from(pair);
-    let from = fields::rival_from(&pair[96..]);
+    let from = fields::rival_from(&pair[RIVAL_LEN..]);
     of_held(select::hold::waits(to, from, margin))
 }
 
@@ -148,18 +124,9 @@ fn of_cost(answer: CostAnswer) -> Reply
     ensures { λ r. ⌜ r ≡ costReply answer ⌝ }
 {
     match answer {
-        CostAnswer::Cost(x) => Reply {
-            number: 0,
-            value: 1,
-        },
-        CostAnswer::Over => Reply {
-            number: 0,
-            value: 0,
-        },
-        CostAnswer::Refused(why) => Reply {
-            number: why.number(),
-            value: 0,
-        },
+        CostAnswer::Cost(_) => crate::give(1),
+        CostAnswer::Over => crate::give(0),
+        CostAnswer::Refused(why) => crate::refuse(why),
     }
 }
 
@@ -177,7 +144,7 @@ pub extern "C" fn hess_hold(at: u64, reports: u8, now: u64, dwell: u64) -> Reply
 pub extern "C" fn hess_tier(role: u64) -> u64
     ensures { λ r. ⌜ r ≡ tierOf (roleOf role) ⌝ }
 {
-    let named = fields::role_of(role);
+    let named = select::media::role_of(role);
     select::media::tier(named) as u64
 }
 
@@ -186,8 +153,8 @@ pub extern "C" fn hess_tier(role: u64) -> u64
 pub extern "C" fn hess_quicker(a: u64, b: u64) -> bool
     ensures { λ r. ⌜ r ≡ quickerOf (mediumOf a) (mediumOf b) ⌝ }
 {
-    let one = fields::medium_of(a);
-    let other = fields::medium_of(b);
+    let one = select::media::medium_of(a);
+    let other = select::media::medium_of(b);
     select::media::quicker(one, other)
 }
 
@@ -196,33 +163,22 @@ fn of_size(answer: SizeAnswer) -> Reply
     ensures { λ r. ⌜ r ≡ sizedReply answer ⌝ }
 {
     match answer {
-        SizeAnswer::Size(n) => Reply {
-            number: 0,
-            value: n as u64,
-        },
-        SizeAnswer::Refused(why) => Reply {
-            number: why.number(),
-            value: 0,
-        },
+        SizeAnswer::Size(n) => crate::give(n as u64),
+        SizeAnswer::Refused(why) => crate::refuse(why),
     }
 }
 
-// A proven size, if held.
-fn proven_of(held: bool, proven: u32) -> MaybeSize
-    ensures { λ r. ⌜ r ≡ maybeSize held proven ⌝ }
-{
-    if held {
-        MaybeSize::Some(proven)
-    } else {
-        MaybeSize::None
-    }
-}
-
-// The largest frame that a path carries.
+// The largest frame that a path carries; 5 for a proven size, if held, above 65,535.
 #[no_mangle]
 pub extern "C" fn hess_carried(link: u32, held: bool, proven: u32, oriented: bool) -> Reply
     ensures { λ r. ⌜ r ≡ carriedReply link held proven oriented ⌝ }
 {
-    let size = proven_of(held, proven);
-    of_size(select::carry::carried(link, size, oriented))
+    if !held {
+        return of_size(select::carry::carried(link, MaybeLen::None, oriented));
+    }
+    if MAX_LEN < proven {
+        return crate::refuse(Refusal::Length);
+    }
+    let some = MaybeLen::Some(proven as u16);
+    of_size(select::carry::carried(link, some, oriented))
 }

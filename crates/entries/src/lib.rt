@@ -1,4 +1,5 @@
-// Every function that C or Rust calls: numbers and lent bytes. Nothing is required of the caller; a call outside the limits is refused.
+// Every function that C or Rust calls: numbers and lent bytes. Nothing is required of the caller; a call outside the
+// limits is refused.
 ghost use mathlib.Core.Path.{_≡_};
 ghost use lib.ListN.{length};
 ghost use lib.Ieee.{binary64};
@@ -6,9 +7,11 @@ ghost use Rattle.base.specs.Serial.{afterOf};
 ghost use Rattle.base.specs.Time.{elapsedOf};
 ghost use Rattle.total.specs.Total.{totalAt};
 ghost use Rattle.total.specs.Values.{totalOf, clampOf, maxOf};
-ghost use Rattle.etx.specs.Etx.{foldOf, qualityOf, secondsOf};
+ghost use Rattle.etx.specs.Etx.{foldOf, qualityOf};
 ghost use Rattle.script.specs.Run.{scriptNumber, scriptOut};
-ghost use Rattle.entries.specs.Entries.{refused, given, deadlineReply, sizeReply, timeoutReply, ladderOf, maybeOf};
+ghost use Rattle.entries.specs.Entries.{refusedReply, given, noFloat, givenFloat, deadlineReply, secondsReply};
+ghost use Rattle.entries.specs.Entries.{scoreReply, isOutside, sizeReply, timeoutReply, ladderOf, maybeLen};
+ghost use Rattle.entries.specs.Entries.{maybeOf};
 use base::limits::DURATION_END;
 use base::limits::MAX_LEN;
 use base::limits::MIN_LEN;
@@ -22,6 +25,53 @@ pub mod choice;
 pub struct Reply {
     pub number: u64,
     pub value: u64,
+}
+
+// The same where the value is a float.
+#[repr(C)]
+pub struct FloatReply {
+    pub number: u64,
+    pub value: f64,
+}
+
+// A refusal.
+pub fn refuse(why: Refusal) -> Reply
+    ensures { λ r. ⌜ r ≡ refusedReply why ⌝ }
+{
+    Reply {
+        number: why.number(),
+        value: 0,
+    }
+}
+
+// A value.
+pub fn give(value: u64) -> Reply
+    ensures { λ r. ⌜ r ≡ given value ⌝ }
+{
+    Reply {
+        number: 0,
+        value: value,
+    }
+}
+
+// A refusal where the value is a float.
+fn refuse_float(why: Refusal) -> FloatReply
+    ensures { λ r. ⌜ r ≡ noFloat why ⌝ }
+{
+    FloatReply {
+        number: why.number(),
+        value: 0.0,
+    }
+}
+
+// A float.
+fn give_float(value: f64) -> FloatReply
+    ensures { λ r. ⌜ r ≡ givenFloat value ⌝ }
+{
+    FloatReply {
+        number: 0,
+        value: value,
+    }
 }
 
 // Whether identifier a comes after b.
@@ -38,15 +88,9 @@ pub extern "C" fn hess_deadline(t: u64, d: u64) -> Reply
     ensures { λ r. ⌜ r ≡ deadlineReply t d ⌝ }
 {
     if DURATION_END <= d {
-        return Reply {
-            number: 6,
-            value: 0,
-        };
+        return refuse(Refusal::Duration);
     }
-    Reply {
-        number: 0,
-        value: base::time::deadline(t, d),
-    }
+    give(base::time::deadline(t, d))
 }
 
 // The time from `from` to `now`, 0 where the clock went back.
@@ -89,12 +133,26 @@ pub extern "C" fn hess_max(x: f64, y: f64) -> f64
     total::max(x, y)
 }
 
-// A duration in seconds.
+// A duration in seconds; 6 for one of 2^62 or more.
 #[no_mangle]
-pub extern "C" fn hess_seconds(ns: u64) -> f64
-    ensures { λ r. ⌜ r ≡ secondsOf ns ⌝ }
+pub extern "C" fn hess_seconds(ns: u64) -> FloatReply
+    ensures { λ r. ⌜ r ≡ secondsReply ns ⌝ }
 {
-    etx::seconds(ns)
+    if DURATION_END <= ns {
+        return refuse_float(Refusal::Duration);
+    }
+    give_float(etx::seconds(ns))
+}
+
+// The score of a path by its ETX and its least round trip; 6 for a round trip of 2^62 or more.
+#[no_mangle]
+pub extern "C" fn hess_score(etx: f64, rtt: u64) -> FloatReply
+    ensures { λ r. ⌜ r ≡ scoreReply etx rtt ⌝ }
+{
+    if DURATION_END <= rtt {
+        return refuse_float(Refusal::Duration);
+    }
+    give_float(scores::quality(etx, rtt))
 }
 
 // totalOrder of two bit patterns.
@@ -113,22 +171,33 @@ pub extern "C" fn hess_total(a: f64, b: f64) -> bool
     total::total(a, b)
 }
 
+// A length, if held.
+pub fn maybe_len(held: bool, n: u16) -> MaybeLen
+    ensures { λ r. ⌜ r ≡ maybeLen held n ⌝ }
+{
+    if held {
+        MaybeLen::Some(n)
+    } else {
+        MaybeLen::None
+    }
+}
+
 // The ladder of a path that fell or not, with a last size or none.
 fn ladder(fallen: bool, held: bool, last: u16) -> Ladder
     ensures { λ r. ⌜ r ≡ ladderOf fallen held last ⌝ }
 {
-    if held {
-        let some = MaybeLen::Some(last);
-        return Ladder {
-            last: some,
-            fallen: fallen,
-        };
-    }
-    let none = MaybeLen::None;
+    let some = maybe_len(held, last);
     Ladder {
-        last: none,
+        last: some,
         fallen: fallen,
     }
+}
+
+// Whether a full or a last size is outside the limits.
+fn outside(full: u32, last: u32) -> bool
+    ensures { λ r. ⌜ r ≡ isOutside full last ⌝ }
+{
+    (MAX_LEN < full) | ((full < MIN_LEN) | (MAX_LEN < last))
 }
 
 // The size of the next probe of a path whose last size is `last`, if held; 5 for sizes outside the limits.
@@ -136,29 +205,11 @@ fn ladder(fallen: bool, held: bool, last: u16) -> Ladder
 pub extern "C" fn hess_size(full: u32, fallen: bool, held: bool, last: u32) -> Reply
     ensures { λ r. ⌜ r ≡ sizeReply full fallen held last ⌝ }
 {
-    if MAX_LEN < full {
-        return Reply {
-            number: 5,
-            value: 0,
-        };
-    }
-    if full < MIN_LEN {
-        return Reply {
-            number: 5,
-            value: 0,
-        };
-    }
-    if MAX_LEN < last {
-        return Reply {
-            number: 5,
-            value: 0,
-        };
+    if outside(full, last) {
+        return refuse(Refusal::Length);
     }
     let l = ladder(fallen, held, last as u16);
-    Reply {
-        number: 0,
-        value: seek::ladder::size(l, full as u16) as u64,
-    }
+    give(seek::ladder::size(l, full as u16) as u64)
 }
 
 // A number that may be missing.
@@ -184,30 +235,19 @@ pub extern "C" fn hess_timeout(
 ) -> Reply
     ensures { λ r. ⌜ r ≡ timeoutReply floor cap (maybeOf timed last) (maybeOf sampled largest) ⌝ }
 {
-    if DURATION_END <= floor {
-        return Reply {
-            number: 6,
-            value: 0,
-        };
-    }
-    if DURATION_END <= cap {
-        return Reply {
-            number: 6,
-            value: 0,
-        };
+    if (DURATION_END <= floor) | (DURATION_END <= cap) {
+        return refuse(Refusal::Duration);
     }
     let l = maybe(timed, last);
     let m = maybe(sampled, largest);
-    Reply {
-        number: 0,
-        value: rtt::times::timeout(l, m, floor, cap),
-    }
+    give(rtt::times::timeout(l, m, floor, cap))
 }
 
 // Carries out a script of calls on a new path, and writes its answers and the path's image into the lent bytes.
 #[no_mangle]
 pub extern "C" fn hess_script(script: &[u8], out: &mut [u8]) -> u64
-    ensures { λ r. ⌜ (r ≡ scriptNumber (now (script .entry)) (length (now (out .entry)))) × (now (out .exit) ≡ scriptOut (now (script .entry)) (now (out .entry))) ⌝ }
+    ensures { λ r. ⌜ (r ≡ scriptNumber (now (script .entry)) (length (now (out .entry))))
+        × (now (out .exit) ≡ scriptOut (now (script .entry)) (now (out .entry))) ⌝ }
 {
     script::run::run_script(script, out)
 }

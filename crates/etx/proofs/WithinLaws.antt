@@ -25,7 +25,7 @@ hundred-real : isNan hundred ≡ false
 unfolding isNan ofBits
 hundred-real = refl
 
-one-within : Within one
+pub one-within : Within one
 unfolding le ofBits
 one-within = record { low = refl; high = refl }
 

@@ -1,5 +1,6 @@
--- Document 01, "RTT, ETX, score": "`fold` and `quality_index` run the Rust's float steps in its order, each rounded once; clamp and
--- maximum are ours. .. ETX stays within 1 and 100." The operations are IEEE 754's on binary64 (`lib.Ieee`).
+-- Document 01, "RTT, ETX, score": "`fold` and `quality_index` run the Rust's float steps in its order, each rounded
+-- once; clamp and maximum are ours. .. ETX stays within 1 and 100." The operations are IEEE 754's on binary64
+-- (`lib.Ieee`).
 use mathlib.Core.Path.{_≡_}
 use mathlib.Core.Bool.{Bool, true, cond}
 use Prim.Native.Nat.{ℕ, _/_, _%_}
@@ -56,7 +57,8 @@ unfoldable pub foldOf : Float → Bool → Float
 foldOf etx delivered =
     clampOf (div binary64 one (maxOf (nextRatio (ratioOf etx) (outcomeOf delivered)) hundredth)) one hundred
 
--- "ETX stays within 1 and 100": so it is finite and no NaN. `fold-within` of proofs/WithinLaws.antt shows it of every fold.
+-- "ETX stays within 1 and 100": so it is finite and no NaN. `fold-within` of proofs/WithinLaws.antt shows it of every
+-- fold.
 pub record Within (x : Float) : Type 0 where
   pub low : le one x ≡ true
   pub high : le x hundred ≡ true

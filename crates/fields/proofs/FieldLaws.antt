@@ -1,11 +1,11 @@
 -- One rival of a field after the other.
 -- Assumes nothing.
-use Prim.Native.Nat.{ℕ, zero, suc, _+_, _-_, _*_, _/_, _%_, _<_, _≤_}
+use Prim.Native.Nat.{ℕ, suc, _+_, _-_, _*_, _/_, _%_, _<_, _≤_}
 use mathlib.Core.Bool.{Bool}
 use lib.Ieee.{Float}
 use Rattle.octets.specs.Octets.{readAt}
 use Rattle.select.specs.declared.types.Medium.{Medium}
-use mathlib.Core.Path.{_≡_, refl, sym, ap, _∙_}
+use mathlib.Core.Path.{_≡_, sym, ap, _∙_}
 use mathlib.Core.List.{List, [], _∷_, _++_, append-assoc, append-nil}
 use native.Mathlib.Omega.{arith}
 use native.Mathlib.Numerals.{add-one}
@@ -16,12 +16,13 @@ use lib.ListN.{length, take, drop, set, replicate, length-set, length-drop}
 use lib.Seq.{take-all, take-suc-set, drop-drop}
 use Rattle.select.specs.Rivals.{noRival}
 use Rattle.select.specs.declared.types.Rival.{Rival}
-use Rattle.fields.specs.Fields.{floatOf, bitOf, mediumOf, rivalFrom, rivalsFrom, fieldOf}
+use Rattle.fields.specs.Fields.{rivalLen, fieldLen, floatOf, bitOf, rivalFrom, rivalsFrom, fieldOf}
+use Rattle.select.specs.Media.{mediumOf}
 
 -- of n rivals of s those before i stand at the front of out, and the rest begins at `at`
 pub record Taking (s : List ℕ) (n : ℕ) (out : List Rival) (i at : ℕ) : Type 0 where
   pub upto : i ≤ n
-  pub place : at ≡ 96 * i
+  pub place : at ≡ rivalLen * i
   pub long : length out ≡ n
   pub done : rivalsFrom n s ≡ take i out ++ rivalsFrom (n - i) (drop at s)
 
@@ -34,43 +35,50 @@ taking-start {s} {n} {out} h =
 pub tail-from : (s : List ℕ) (at : ℕ) → midOf at (length s - at) s ≡ drop at s
 tail-from s at = take-all (length s - at) (drop at s) (le-of-eq (length-drop at s))
 
-pub taking-next : {s : List ℕ} {n : ℕ} {out : List Rival} {i at : ℕ} {r : Rival} → Taking s n out i at → i < n → r ≡ rivalFrom (drop at s)
-    → Taking s n (set out i r) (i + 1) (at + 96)
+pub taking-next : {s : List ℕ} {n : ℕ} {out : List Rival} {i at : ℕ} {r : Rival} → Taking s n out i at → i < n
+    → r ≡ rivalFrom (drop at s)
+    → Taking s n (set out i r) (i + 1) (at + rivalLen)
 taking-next {s} {n} {out} {i} {at} {r} t h e =
     let k : n - i ≡ suc (n - (i + 1)) = omega arith in
     let l : i < length out = omega (arith, t .long) in
     let q : take (i + 1) (set out i r) ≡ take i out ++ (r ∷ []) = rw add-one (take-suc-set out i r l) in
-    let d : drop 96 (drop at s) ≡ drop (at + 96) s = drop-drop 96 at s in
+    let d : drop rivalLen (drop at s) ≡ drop (at + rivalLen) s = drop-drop rivalLen at s in
     let x : rivalsFrom n s ≡ take i out ++ rivalsFrom (suc (n - (i + 1))) (drop at s) = rw k at (t .done) in
-    let y : rivalsFrom (suc (n - (i + 1))) (drop at s) ≡ r ∷ rivalsFrom (n - (i + 1)) (drop (at + 96) s) = rw (d, sym e) in
+    let y : rivalsFrom (suc (n - (i + 1))) (drop at s) ≡ r ∷ rivalsFrom (n - (i + 1)) (drop (at + rivalLen) s) = rw
+    (d, sym e) in
     record {
       upto = omega arith;
       place = omega (arith, t .place);
       long = length-set out i r ∙ t .long;
       done =
           x ∙ ap (λ (z : List Rival). take i out ++ z) y
-          ∙ sym (append-assoc (take i out) (r ∷ []) (rivalsFrom (n - (i + 1)) (drop (at + 96) s)))
-          ∙ ap (λ (z : List Rival). z ++ rivalsFrom (n - (i + 1)) (drop (at + 96) s)) (sym q);
+          ∙ sym (append-assoc (take i out) (r ∷ []) (rivalsFrom (n - (i + 1)) (drop (at + rivalLen) s)))
+          ∙ ap (λ (z : List Rival). z ++ rivalsFrom (n - (i + 1)) (drop (at + rivalLen) s)) (sym q);
     }
 
-pub taking-end : {s : List ℕ} {out : List Rival} {i at : ℕ} → Taking s 8 out i at → 8 ≤ i → 768 ≤ length s → out ≡ fieldOf s
+pub taking-end : {s : List ℕ} {out : List Rival} {i at : ℕ} → Taking s 8 out i at → 8 ≤ i → fieldLen ≤ length s
+    → out ≡ fieldOf s
 unfolding fieldOf
 taking-end {s} {out} {i} {at} t h k =
     let z : 8 - i ≡ 0 = omega arith in
     let a : take i out ≡ out = take-all i out (omega (arith, t .long)) in
     let d : rivalsFrom 8 s ≡ take i out ++ rivalsFrom (8 - i) (drop at s) = t .done in
-    rw (le-ltb (length s) 768 k)
+    rw (le-ltb (length s) fieldLen k)
     (sym (d ∙ ap (λ (m : ℕ). take i out ++ rivalsFrom m (drop at s)) z ∙ append-nil (take i out) ∙ a))
 
-pub field-short : (s : List ℕ) → length s < 768 → replicate 8 noRival ≡ fieldOf s
+pub field-short : (s : List ℕ) → length s < fieldLen → replicate 8 noRival ≡ fieldOf s
 unfolding fieldOf
-field-short s h = rw (lt-ltb (length s) 768 h)
+field-short s h = rw (lt-ltb (length s) fieldLen h)
 
 -- a rival from its parts
-pub rival-made : (s : List ℕ) {score steady : Float} {rtt base index t : ℕ} {held scored steadied timed based preferred pinned fits : Bool} {medium : Medium}
-    → score ≡ floatOf (readAt 24 8 s) → steady ≡ floatOf (readAt 56 8 s) → rtt ≡ readAt 40 8 s → base ≡ readAt 72 8 s → index ≡ readAt 8 8 s
-    → t ≡ readAt 80 8 s → held ≡ bitOf (readAt 0 8 s) → scored ≡ bitOf (readAt 16 8 s) → steadied ≡ bitOf (readAt 48 8 s)
-    → timed ≡ bitOf (readAt 32 8 s) → based ≡ bitOf (readAt 64 8 s) → preferred ≡ bitOf (readAt 88 8 s) → pinned ≡ bitOf (readAt 88 8 s / 2)
+pub rival-made : (s : List ℕ) {score steady : Float} {rtt base index t : ℕ}
+    {held scored steadied timed based preferred pinned fits : Bool} {medium : Medium}
+    → score ≡ floatOf (readAt 24 8 s) → steady ≡ floatOf (readAt 56 8 s) → rtt ≡ readAt 40 8 s → base ≡ readAt 72 8 s
+    → index ≡ readAt 8 8 s
+    → t ≡ readAt 80 8 s → held ≡ bitOf (readAt 0 8 s) → scored ≡ bitOf (readAt 16 8 s)
+    → steadied ≡ bitOf (readAt 48 8 s)
+    → timed ≡ bitOf (readAt 32 8 s) → based ≡ bitOf (readAt 64 8 s) → preferred ≡ bitOf (readAt 88 8 s)
+    → pinned ≡ bitOf (readAt 88 8 s / 2)
     → fits ≡ bitOf (readAt 88 8 s / 4) → medium ≡ mediumOf (readAt 88 8 s / 16)
     → _≡_ {A = Rival} (record {
       score = score;

@@ -1,18 +1,28 @@
--- Rivals from bytes, for the host that runs the Rust's choice beside ours: twelve numbers of eight bytes for each: held, index, scored,
--- score, timed, RTT, steadied, steady, based, base RTT, tier, marks (bit 0 preferred, 1 pinned, 2 fits, 4 and 5 the medium).
-use Prim.Native.Nat.{ℕ, zero, suc, _/_, _%_}
+-- Rivals from bytes, for the host that runs the Rust's choice beside ours: twelve numbers of eight bytes for each:
+-- held, index, scored, score, timed, RTT, steadied, steady, based, base RTT, tier, marks (bit 0 preferred, 1 pinned, 2
+-- fits, 4 and 5 the medium).
+use Prim.Native.Nat.{ℕ, zero, suc, _*_, _/_, _%_}
 use mathlib.Core.List.{List, [], _∷_}
 use mathlib.Core.Bool.{Bool, cond}
 use lib.Dec.{eqb, ltb}
 use lib.Ieee.{Float, binary64, ofBits}
 use lib.ListN.{length, drop, replicate}
 use Rattle.octets.specs.Octets.{readAt}
-use Rattle.select.specs.Rivals.{noRival}
-use Rattle.select.specs.declared.types.Medium.{Medium}
-use Rattle.select.specs.declared.types.Medium.the-variants as medium
-use Rattle.select.specs.declared.types.Role.{Role}
-use Rattle.select.specs.declared.types.Role.the-variants as role
+use Rattle.select.specs.Media.{mediumOf}
+use Rattle.select.specs.Rivals.{maxPaths, noRival}
 use Rattle.select.specs.declared.types.Rival.{Rival}
+
+-- the bytes of a rival
+abbrev pub rivalLen : ℕ
+rivalLen = 96
+
+-- the bytes of a field, a rival for each place
+abbrev pub fieldLen : ℕ
+fieldLen = maxPaths * rivalLen
+
+-- the bytes of a pair of rivals
+abbrev pub pairLen : ℕ
+pairLen = 2 * rivalLen
 
 -- the float of a pattern: every NaN's pattern is the one NaN's
 abbrev pub floatOf : ℕ → Float
@@ -21,14 +31,6 @@ floatOf bits = ofBits binary64 bits
 -- an odd number is a mark that stands
 abbrev pub bitOf : ℕ → Bool
 bitOf x = eqb (x % 2) 1
-
--- a medium and a role by their numbers in the Rust's order, modulo 4
-abbrev pub mediumOf : ℕ → Medium
-mediumOf x =
-    cond (eqb (x % 4) 0) medium.Ble (cond (eqb (x % 4) 1) medium.Wired (cond (eqb (x % 4) 2) medium.Wireless medium.Unknown))
-
-abbrev pub roleOf : ℕ → Role
-roleOf x = cond (eqb (x % 4) 0) role.Never (cond (eqb (x % 4) 1) role.Backup (cond (eqb (x % 4) 2) role.Normal role.Preferred))
 
 -- the rival at the front of the bytes
 unfoldable pub rivalFrom : List ℕ → Rival
@@ -54,8 +56,8 @@ rivalFrom s =
 -- the first n rivals
 abbrev pub rivalsFrom : ℕ → List ℕ → List Rival
 rivalsFrom zero s = []
-rivalsFrom (suc n) s = rivalFrom s ∷ rivalsFrom n (drop 96 s)
+rivalsFrom (suc n) s = rivalFrom s ∷ rivalsFrom n (drop rivalLen s)
 
--- a field of eight rivals, empty where there are fewer bytes
+-- a field of rivals, empty where there are fewer bytes
 unfoldable pub fieldOf : List ℕ → List Rival
-fieldOf s = cond (ltb (length s) 768) (replicate 8 noRival) (rivalsFrom 8 s)
+fieldOf s = cond (ltb (length s) fieldLen) (replicate maxPaths noRival) (rivalsFrom maxPaths s)

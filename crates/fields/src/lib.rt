@@ -1,8 +1,17 @@
 // Rivals from bytes: twelve little-endian numbers of eight bytes for each.
 ghost use mathlib.Core.Path.{_≡_};
-ghost use Rattle.fields.specs.Fields.{floatOf, mediumOf, roleOf, bitOf, rivalFrom, fieldOf};
+ghost use Rattle.fields.specs.Fields.{floatOf, bitOf, rivalFrom, fieldOf};
 use octets::get;
 use select::types::*;
+
+// The bytes of a rival.
+pub const RIVAL_LEN: usize = 96;
+
+// The bytes of a field, a rival for each place.
+pub const FIELD_LEN: usize = PATH_MAX_PER_PEER * RIVAL_LEN;
+
+// The bytes of a pair of rivals.
+pub const PAIR_LEN: usize = 2 * RIVAL_LEN;
 
 // The float of a pattern; every NaN's pattern gives the one NaN.
 pub fn float_of(bits: u64) -> f64
@@ -22,38 +31,12 @@ fn bit(x: u64) -> bool
     x % 2 == 1
 }
 
-// A medium by its number, modulo 4.
-pub fn medium_of(x: u64) -> Medium
-    ensures { λ r. ⌜ r ≡ mediumOf x ⌝ }
-{
-    let n = x % 4;
-    match n {
-        0 => Medium::Ble,
-        1 => Medium::Wired,
-        2 => Medium::Wireless,
-        _ => Medium::Unknown,
-    }
-}
-
-// A role by its number, modulo 4.
-pub fn role_of(x: u64) -> Role
-    ensures { λ r. ⌜ r ≡ roleOf x ⌝ }
-{
-    let n = x % 4;
-    match n {
-        0 => Role::Never,
-        1 => Role::Backup,
-        2 => Role::Normal,
-        _ => Role::Preferred,
-    }
-}
-
 // The rival whose twelve numbers stand at the front of the bytes.
 pub fn rival_from(part: &[u8]) -> Rival
     ensures { λ r. ⌜ r ≡ rivalFrom (now (part .entry)) ⌝ }
 {
     let marks = get(part, 88, 8);
-    let medium = medium_of(marks / 16);
+    let medium = select::media::medium_of(marks / 16);
     Rival {
         score: float_of(get(part, 24, 8)),
         steady: float_of(get(part, 56, 8)),
@@ -73,13 +56,13 @@ pub fn rival_from(part: &[u8]) -> Rival
     }
 }
 
-// A field of eight rivals from 768 bytes; an empty one where there are fewer.
+// A field of rivals; an empty one where there are fewer bytes than a field has.
 pub fn field_from(bytes: &[u8]) -> [Rival; PATH_MAX_PER_PEER]
     ensures { λ r. ⌜ r ≡ fieldOf (now (bytes .entry)) ⌝ }
 {
     let none = Rival::none();
     let mut field = [none; PATH_MAX_PER_PEER];
-    if bytes.len() < 768 {
+    if bytes.len() < FIELD_LEN {
         return field;
     }
     let mut i: usize = 0;
@@ -87,7 +70,7 @@ pub fn field_from(bytes: &[u8]) -> [Rival; PATH_MAX_PER_PEER]
     while i < PATH_MAX_PER_PEER {
         let r = rival_from(&bytes[at..]);
         field[i] = r;
-        at += 96;
+        at += RIVAL_LEN;
         i += 1;
     }
     field

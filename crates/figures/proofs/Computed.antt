@@ -1,5 +1,5 @@
--- The marked figures, computed: the definitions unfold to the expected numbers. Entry by entry, since a comparison of two whole lists
--- costs twice as much with each entry, and so that an entry that differs is named.
+-- The marked figures, computed: the definitions unfold to the expected numbers. Entry by entry, since a comparison of
+-- two whole lists costs twice as much with each entry, and so that an entry that differs is named.
 -- Assumes nothing.
 use mathlib.Core.Path.{_≡_, refl}
 use mathlib.Core.List.{List, [], _∷_}

@@ -1,5 +1,5 @@
--- The twelve marked figures (document 01, "Twelve marked figures"): what the definitions of the parts compute, and what the document
--- expects.
+-- The twelve marked figures (document 01, "Twelve marked figures"): what the definitions of the parts compute, and what
+-- the document expects.
 use Prim.Native.Nat.{ℕ, _-_, _^_}
 use mathlib.Core.List.{List, [], _∷_}
 use Rattle.base.specs.Seq.{flagOf}
@@ -10,7 +10,8 @@ use Rattle.live.specs.New.{newLiveness}
 use Rattle.live.specs.Answers.{answerValue}
 use Rattle.live.specs.Search.{seekSizeOf}
 use Rattle.live.specs.Times.{timeoutOf, spentOf}
-use Rattle.figures.specs.Paths.{millis, lapsed, nextSize, nextSizes, proven, fullLost, restOf, probes, sampled, spanCount, halted, gapOf}
+use Rattle.figures.specs.Paths.{millis, lapsed, nextSize, nextSizes, proven, fullLost, restOf, probes, sampled}
+use Rattle.figures.specs.Paths.{spanCount, halted, gapOf}
 
 -- the numbers of each figure, computed
 unfoldable pub figures : List (List ℕ)
@@ -37,7 +38,8 @@ figures =
     (answerValue (timeoutOf (sampled 0) (millis 400) (millis 600)) ∷ []) ∷
     -- (11) horizon 60 s: a sample 10 s on opens a span (1 ns earlier it joins the first)
     (spanCount (sampled (seconds 10 - 1)) ∷ spanCount (sampled (seconds 10)) ∷ []) ∷
-    -- (12) quiet 90, `halt` at 100 active, `spend` at 119, gap 1; at 120, gap 2 s (after the one at 119, or instead of it)
+    -- (12) quiet 90, `halt` at 100 active, `spend` at 119, gap 1; at 120, gap 2 s (after the one at 119, or instead of
+    -- it)
     (gapOf (spentOf halted (seconds 119)) ∷
     gapOf (spentOf (spentOf halted (seconds 119)) (seconds 120)) ∷
     gapOf (spentOf halted (seconds 120)) ∷

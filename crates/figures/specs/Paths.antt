@@ -1,7 +1,8 @@
--- The paths that the marked figures speak of, each made from a new one by the rules of the methods alone (document 01, "Twelve marked
--- figures"). Where a figure names no instant, everything happens at instant 0, with gap, timeout and cap 0 and the draw 0.
+-- The paths that the marked figures speak of, each made from a new one by the rules of the methods alone (document 01,
+-- "Twelve marked figures"). Where a figure names no instant, everything happens at instant 0, with gap, timeout and cap
+-- 0 and the draw 0.
 use Prim.Native.Nat.{ℕ, zero, suc, _-_, _*_, _^_}
-use mathlib.Core.Bool.{Bool, true, false, cond}
+use mathlib.Core.Bool.{true, false, cond}
 use mathlib.Core.List.{List, [], _∷_}
 use lib.Dec.{eqb}
 use lib.ListN.{length}
@@ -54,10 +55,15 @@ lost p = seekJudgeOf (answerOf (sendOf p 0 0 27 0 .path) (answerValue (sendOf p 
 abbrev pub fullLost : ℕ → ℕ → Liveness
 fullLost n full = lost (searched (proven n) full)
 
--- rest after a clearing, as it shows: the size out, the lost size, the refusal of `seek_size` 1 ns before 600 s, its size at 600 s
+-- the size of the search probe that is out, 0 if none is
+abbrev pub sizeOut : Liveness → ℕ
+sizeOut p = p .sizes .seek .len
+
+-- rest after a clearing, as it shows: the size out, the lost size, the refusal of `seek_size` 1 ns before 600 s, its
+-- size at 600 s
 abbrev pub restOf : Liveness → ℕ → List ℕ
 restOf p full =
-    p .sizes .seek .len ∷
+    sizeOut p ∷
     p .sizes .seek .lost ∷
     answerNumber (seekSizeOf p full (seconds 600 - 1)) ∷
     answerValue (seekSizeOf p full (seconds 600)) ∷
@@ -65,11 +71,11 @@ restOf p full =
 
 -- the search probe that is out is acknowledged at its size
 abbrev pub acked : Liveness → Liveness
-acked p = seekProvedOf (seekAnswerOf p (p .sizes .seek .«probe_id») 0 .path) (p .sizes .seek .len) (p .sizes .seek .len) 0 .path
+acked p = seekProvedOf (seekAnswerOf p (p .sizes .seek .«probe_id») 0 .path) (sizeOut p) (sizeOut p) 0 .path
 
 -- "full .. lost, the rest acknowledged"
 abbrev pub settled : Liveness → ℕ → Liveness
-settled p full = cond (eqb (p .sizes .seek .len) full) (lost p) (acked p)
+settled p full = cond (eqb (sizeOut p) full) (lost p) (acked p)
 
 -- how many search probes are sent, at most n, until no size is proposed
 abbrev pub probes : ℕ → Liveness → ℕ → ℕ

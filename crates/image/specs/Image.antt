@@ -1,8 +1,8 @@
--- The image of a path, for the host that runs both sides (document 01, "Forms the Rust can't lend": it "calls ours as C functions on
--- numbers and bytes"): all that a path keeps as 225 numbers of eight bytes, so that the two are compared field by field. What may be
--- missing is a tag, 1 or 0, and a value, 0 if missing.
+-- The image of a path, for the host that runs both sides (document 01, "Forms the Rust can't lend": it "calls ours as C
+-- functions on numbers and bytes"): all that a path keeps as 225 numbers of eight bytes, so that the two are compared
+-- field by field. What may be missing is a tag, 1 or 0, and a value, 0 if missing.
 use mathlib.Core.List.{List, [], _∷_, _++_}
-use mathlib.Core.Bool.{Bool, cond}
+use mathlib.Core.Bool.{cond}
 use Prim.Native.Nat.{ℕ}
 use lib.Ieee.{Float, binary64, isNan, toBits}
 use lib.ListN.{replicate}
@@ -82,7 +82,8 @@ sizeWords misses l s =
 -- the frames received, their bytes, and when the last frame and the last session datagram came
 abbrev pub trafficWords : Traffic → List ℕ
 trafficWords t =
-    t .frames ∷ t .bytes ∷ timeTag (t .«heard_at») ∷ timeOrZero (t .«heard_at») ∷ timeTag (t .«data_at») ∷ timeOrZero (t .«data_at») ∷ []
+    t .frames ∷ t .bytes ∷ timeTag (t .«heard_at») ∷ timeOrZero (t .«heard_at») ∷ timeTag (t .«data_at»)
+    ∷ timeOrZero (t .«data_at») ∷ []
 
 -- a place of the samples: used, then what stands there
 abbrev pub sampleWords : Sample → List ℕ
@@ -92,7 +93,8 @@ sampleWords s = flagOf (s .used) ∷ s .at ∷ s .rtt ∷ []
 abbrev pub spanWords : Span → List ℕ
 spanWords s = flagOf (s .used) ∷ s .from ∷ s .to ∷ s .rtt ∷ []
 
--- the ETX by its pattern; "only which NaN an operation on floats yields is left open", so every NaN is the quiet one without a payload
+-- the ETX by its pattern; "only which NaN an operation on floats yields is left open", so every NaN is the quiet one
+-- without a payload
 abbrev pub etxBits : Float → ℕ
 etxBits x = cond (isNan x) 0x7ff8_0000_0000_0000 (toBits binary64 x)
 

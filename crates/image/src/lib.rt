@@ -13,7 +13,8 @@ use words::etx_bits;
 
 // Writes the image over the first 1,800 of the lent bytes, or nothing where there are fewer; says whether it did.
 pub fn write_image(out: &mut [u8], path: Liveness) -> bool
-    ensures { λ r. ⌜ (r ≡ leb 1800 (length (now (out .entry)))) × ((now (out .exit) ≡ over (imageOf path) (now (out .entry))) × (length (imageOf path) ≡ 1800)) ⌝ }
+    ensures { λ r. ⌜ (r ≡ leb 1800 (length (now (out .entry))))
+        × ((now (out .exit) ≡ over (imageOf path) (now (out .entry))) × (length (imageOf path) ≡ 1800)) ⌝ }
 {
     if out.len() < 1800 {
         return false;

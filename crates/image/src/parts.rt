@@ -3,7 +3,8 @@ ghost use mathlib.Core.Path.{_≡_};
 ghost use lib.ListN.{length};
 ghost use lib.Dec.{leb};
 ghost use Rattle.octets.specs.Octets.{over, wordsOf, flat};
-ghost use Rattle.image.specs.Image.{sentWords, marksWords, countsWords, sampleWords, spanWords, rttsWords, frontWords};
+ghost use Rattle.image.specs.Image.{sentWords, marksWords, countsWords, sampleWords, spanWords, rttsWords};
+ghost use Rattle.image.specs.Image.{frontWords};
 use crate::words::*;
 use live::types::*;
 use octets::put_words;
@@ -14,7 +15,8 @@ use stop::types::*;
 
 // The ring.
 fn write_ring(out: &mut [u8], ring: [Sent; RING]) -> bool
-    ensures { λ r. ⌜ (r ≡ leb 320 (length (now (out .entry)))) × (now (out .exit) ≡ over (wordsOf (flat sentWords ring)) (now (out .entry))) ⌝ }
+    ensures { λ r. ⌜ (r ≡ leb 320 (length (now (out .entry))))
+        × (now (out .exit) ≡ over (wordsOf (flat sentWords ring)) (now (out .entry))) ⌝ }
 {
     if out.len() < 320 {
         return false;
@@ -33,7 +35,8 @@ fn write_ring(out: &mut [u8], ring: [Sent; RING]) -> bool
 
 // The late list.
 fn write_late(out: &mut [u8], late: [Sent; LATE]) -> bool
-    ensures { λ r. ⌜ (r ≡ leb 160 (length (now (out .entry)))) × (now (out .exit) ≡ over (wordsOf (flat sentWords late)) (now (out .entry))) ⌝ }
+    ensures { λ r. ⌜ (r ≡ leb 160 (length (now (out .entry))))
+        × (now (out .exit) ≡ over (wordsOf (flat sentWords late)) (now (out .entry))) ⌝ }
 {
     if out.len() < 160 {
         return false;
@@ -52,7 +55,8 @@ fn write_late(out: &mut [u8], late: [Sent; LATE]) -> bool
 
 // The samples.
 fn write_samples(out: &mut [u8], samples: [Sample; SAMPLES]) -> bool
-    ensures { λ r. ⌜ (r ≡ leb 768 (length (now (out .entry)))) × (now (out .exit) ≡ over (wordsOf (flat sampleWords samples)) (now (out .entry))) ⌝ }
+    ensures { λ r. ⌜ (r ≡ leb 768 (length (now (out .entry))))
+        × (now (out .exit) ≡ over (wordsOf (flat sampleWords samples)) (now (out .entry))) ⌝ }
 {
     if out.len() < 768 {
         return false;
@@ -71,7 +75,8 @@ fn write_samples(out: &mut [u8], samples: [Sample; SAMPLES]) -> bool
 
 // The spans.
 fn write_spans(out: &mut [u8], spans: [Span; SPANS]) -> bool
-    ensures { λ r. ⌜ (r ≡ leb 256 (length (now (out .entry)))) × (now (out .exit) ≡ over (wordsOf (flat spanWords spans)) (now (out .entry))) ⌝ }
+    ensures { λ r. ⌜ (r ≡ leb 256 (length (now (out .entry))))
+        × (now (out .exit) ≡ over (wordsOf (flat spanWords spans)) (now (out .entry))) ⌝ }
 {
     if out.len() < 256 {
         return false;
@@ -90,7 +95,8 @@ fn write_spans(out: &mut [u8], spans: [Span; SPANS]) -> bool
 
 // The last RTT, the samples and the spans.
 pub fn write_rtts(out: &mut [u8], r: Rtts) -> bool
-    ensures { λ r₁. ⌜ (r₁ ≡ leb 1040 (length (now (out .entry)))) × (now (out .exit) ≡ over (wordsOf (rttsWords r)) (now (out .entry))) ⌝ }
+    ensures { λ r₁. ⌜ (r₁ ≡ leb 1040 (length (now (out .entry))))
+        × (now (out .exit) ≡ over (wordsOf (rttsWords r)) (now (out .entry))) ⌝ }
 {
     if out.len() < 1040 {
         return false;
@@ -107,7 +113,8 @@ pub fn write_rtts(out: &mut [u8], r: Rtts) -> bool
 
 // The identifiers, the silence clock and the stop.
 fn write_marks(out: &mut [u8], ids: Ids, silence: Silence) -> bool
-    ensures { λ r. ⌜ (r ≡ leb 136 (length (now (out .entry)))) × (now (out .exit) ≡ over (wordsOf (marksWords ids silence)) (now (out .entry))) ⌝ }
+    ensures { λ r. ⌜ (r ≡ leb 136 (length (now (out .entry))))
+        × (now (out .exit) ≡ over (wordsOf (marksWords ids silence)) (now (out .entry))) ⌝ }
 {
     if out.len() < 136 {
         return false;
@@ -125,7 +132,8 @@ fn write_marks(out: &mut [u8], ids: Ids, silence: Silence) -> bool
 
 // The misses, the sizes and the traffic.
 fn write_counts(out: &mut [u8], misses: u32, ladder: Ladder, sizes: Sizes, traffic: Traffic) -> bool
-    ensures { λ r. ⌜ (r ≡ leb 136 (length (now (out .entry)))) × (now (out .exit) ≡ over (wordsOf (countsWords misses ladder sizes traffic)) (now (out .entry))) ⌝ }
+    ensures { λ r. ⌜ (r ≡ leb 136 (length (now (out .entry))))
+        × (now (out .exit) ≡ over (wordsOf (countsWords misses ladder sizes traffic)) (now (out .entry))) ⌝ }
 {
     if out.len() < 136 {
         return false;
@@ -139,7 +147,8 @@ fn write_counts(out: &mut [u8], misses: u32, ladder: Ladder, sizes: Sizes, traff
 
 // All that stands before the RTTs: ring, late list, marks and counts.
 pub fn write_front(out: &mut [u8], path: Liveness) -> bool
-    ensures { λ r. ⌜ (r ≡ leb 752 (length (now (out .entry)))) × (now (out .exit) ≡ over (wordsOf (frontWords path)) (now (out .entry))) ⌝ }
+    ensures { λ r. ⌜ (r ≡ leb 752 (length (now (out .entry))))
+        × (now (out .exit) ≡ over (wordsOf (frontWords path)) (now (out .entry))) ⌝ }
 {
     if out.len() < 752 {
         return false;

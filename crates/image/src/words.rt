@@ -1,6 +1,8 @@
 // The numbers of each part of a path, in the order of the image.
 ghost use mathlib.Core.Path.{_≡_};
-ghost use Rattle.image.specs.Image.{idTag, idOrZero, timeTag, timeOrZero, lenTag, lenOrZero, sentWords, idsWords, timeWords, stopWords, sizeWords, trafficWords, sampleWords, spanWords, etxBits};
+ghost use Rattle.image.specs.Image.{idTag, idOrZero, timeTag, timeOrZero, lenTag, lenOrZero, sentWords, idsWords};
+ghost use Rattle.image.specs.Image.{timeWords, stopWords, sizeWords, trafficWords, sampleWords, spanWords};
+ghost use Rattle.image.specs.Image.{etxBits};
 use base::types::*;
 use live::types::*;
 use ring::types::*;

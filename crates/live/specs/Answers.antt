@@ -10,7 +10,8 @@ use Rattle.ring.specs.declared.types.Sent.{Sent}
 use Rattle.live.specs.declared.types.Liveness.{Liveness}
 use Rattle.live.specs.declared.types.Outcome.{Outcome}
 use Rattle.live.specs.declared.types.Answer.{Answer}
-use Rattle.live.specs.declared.types.Answer.the-variants.{Done, Id, InTime, Late, Idle, Lapsed, Len, Time, Flag, Refused}
+use Rattle.live.specs.declared.types.Answer.the-variants.{Done, Id, InTime, Late, Idle, Lapsed, Len, Time, Flag}
+use Rattle.live.specs.declared.types.Answer.the-variants.{Refused}
 
 -- the refusal number, 0 if accepted
 abbrev pub answerNumber : Answer → ℕ
@@ -25,8 +26,8 @@ answerNumber (Time t) = 0
 answerNumber (Flag on) = 0
 answerNumber (Refused why) = refusalNumber why
 
--- the value: an identifier, a length or a duration itself, a flag as 1 or 0; an answer in time is 1, a late one 2; a lapse that was a
--- miss is 1, one that was none 2; else 0
+-- the value: an identifier, a length or a duration itself, a flag as 1 or 0; an answer in time is 1, a late one 2; a
+-- lapse that was a miss is 1, one that was none 2; else 0
 abbrev pub answerValue : Answer → ℕ
 answerValue Done = 0
 answerValue (Id id) = id

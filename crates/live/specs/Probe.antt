@@ -1,4 +1,5 @@
--- Probes sent, answered and lapsed (document 01, "Identifiers" and "Ring (8) and late list (4)"), with the refusals 5, 6, 8 and 9.
+-- Probes sent, answered and lapsed (document 01, "Identifiers" and "Ring (8) and late list (4)"), with the refusals 5,
+-- 6, 8 and 9.
 use Prim.Native.Nat.{ℕ}
 use mathlib.Core.List.{List}
 use mathlib.Core.Bool.{Bool, true, cond, _||_}
@@ -11,7 +12,6 @@ use Rattle.ring.specs.Ids.{takenOf, nextIds, answeredIds, thawedIds, isCounted,
 use Rattle.ring.specs.Ring.{maxWaiting, maxLate, firstFree, dropSince, noSent, found, takenOut, remembered, swept}
 use Rattle.ring.specs.Lapse.{isPassed, deferOf, scanOf, isPadded}
 use Rattle.ring.specs.declared.types.Sent.{Sent}
-use Rattle.ring.specs.declared.types.Ids.{Ids}
 use Rattle.ring.specs.declared.lapse.Scanned.{Scanned}
 use Rattle.seek.specs.declared.types.Ladder.{Ladder}
 use Rattle.stop.specs.Silence.{quietFrom}
@@ -27,7 +27,10 @@ use Rattle.live.specs.declared.types.Answer.the-variants as answer
 -- the next identifier, which ring and search share
 abbrev pub takeIdOf : Liveness → ℕ → Taking
 takeIdOf p draw =
-    record { path = withIds p (nextIds (p .ids) (takenOf (p .ids .«next_id») draw)); id = takenOf (p .ids .«next_id») draw }
+    record {
+      path = withIds p (nextIds (p .ids) (takenOf (p .ids .«next_id») draw));
+      id = takenOf (p .ids .«next_id») draw;
+    }
 
 -- `thaw` sets `since` to the next identifier
 abbrev pub thawOf : Liveness → Liveness
@@ -43,30 +46,33 @@ newSent id at due n = record { at = at; due = due; «probe_id» = id; len = n; u
 abbrev pub sentLadder : Ladder → ℕ → Ladder
 sentLadder l n = record { last = len.Some n; fallen = l .fallen }
 
--- the probe stands in a place of the ring under the identifier taken; its size is the last one; `quiet` keeps the first send's instant
-abbrev pub sentPath : Liveness → ℕ → Ids → ℕ → ℕ → ℕ → ℕ → Liveness
-sentPath p slot kept id at due n =
+-- the probe s stands in the first free place under the next identifier; `since` is dropped if every waiting probe
+-- counts; its size is the last one; `quiet` keeps the first send's instant
+abbrev pub sentPath : Liveness → Sent → Liveness
+sentPath p s =
     withRing
-    (withIds (withLadder (withSilence p (quietFrom (p .silence) at)) (sentLadder (p .ladder) n)) (nextIds kept id))
-    (set (p .ring) slot (newSent id at due n))
+    (withIds
+    (withLadder (withSilence p (quietFrom (p .silence) (s .at))) (sentLadder (p .ladder) (s .len)))
+    (nextIds (dropSince (p .ids) (p .ring)) (s .«probe_id»)))
+    (set (p .ring) (firstFree (p .ring)) s)
 
--- and the identifier is the answer
-abbrev pub sentAt : Liveness → ℕ → Ids → ℕ → ℕ → ℕ → ℕ → Outcome
-sentAt p slot kept id at due n = record { path = sentPath p slot kept id at due n; answer = answer.Id id }
+-- and its identifier is the answer
+abbrev pub sentWith : Liveness → Sent → Outcome
+sentWith p s = record { path = sentPath p s; answer = answer.Id (s .«probe_id») }
 
--- 5 for a length above 65,535; `send` takes the first free place and the next identifier, and drops `since` if every waiting probe
--- counts; with eight waiting it takes no identifier: 8
+-- 5 for a length above 65,535; `send` takes the first free place; with eight waiting it takes no identifier: 8
 unfoldable pub sendOf : Liveness → ℕ → ℕ → ℕ → ℕ → Outcome
 sendOf p at due n draw =
     cond (isOverlong n)
     (refused p Length)
     (cond (leb maxWaiting (firstFree (p .ring)))
     (refused p Full)
-    (sentAt p (firstFree (p .ring)) (dropSince (p .ids) (p .ring)) (takenOf (dropSince (p .ids) (p .ring) .«next_id») draw) at due n))
+    (sentWith p (newSent (takenOf (dropSince (p .ids) (p .ring) .«next_id») draw) at due n)))
 
 -- ---- answer
 
--- in time means still in the ring: the ring closes up, misses become 0, `answered` moves only from none or to a later identifier
+-- in time means still in the ring: the ring closes up, misses become 0, `answered` moves only from none or to a later
+-- identifier
 abbrev pub answeredAt : Liveness → ℕ → ℕ → Outcome
 answeredAt p slot id =
     record {
@@ -94,8 +100,8 @@ answerOf p id =
 abbrev pub lapsedLadder : Ladder → Bool → Ladder
 lapsedLadder l fall = record { last = l .last; fallen = fall || l .fallen }
 
--- the probe s at a place of what the scan left lapses: it leaves the ring, which closes up, and enters the late list at the end;
--- a miss counts
+-- the probe s at a place of what the scan left lapses: it leaves the ring, which closes up, and enters the late list at
+-- the end; a miss counts
 abbrev pub lapsedPath : Liveness → List Sent → ℕ → Sent → Liveness
 lapsedPath p ring slot s =
     withRing

@@ -1,18 +1,19 @@
--- Sizes (document 01, "Size search", `size` and `fresh` of "Ring (8) and late list (4)"), with the refusals 5, 6, 8, 9 and 10.
+-- Sizes (document 01, "Size search", `size` and `fresh` of "Ring (8) and late list (4)"), with the refusals 5, 6, 8, 9
+-- and 10.
 use Prim.Native.Nat.{ℕ}
-use mathlib.Core.Bool.{Bool, true, false, cond}
+use mathlib.Core.Bool.{false, cond}
 use Rattle.base.specs.Limits.{isOverlong, isUndersize, isEndless}
 use Rattle.base.specs.declared.types.Refusal.{Refusal}
 use Rattle.base.specs.declared.types.Refusal.the-variants.{Length, Duration, Unknown, NoSize}
 use Rattle.base.specs.declared.types.MaybeLen.{MaybeLen}
 use Rattle.base.specs.declared.types.MaybeLen.the-variants as len
-use Rattle.ring.specs.Ids.{takenOf, nextIds, freshIds}
+use Rattle.ring.specs.Ids.{freshIds}
 use Rattle.seek.specs.Ladder as ladder
 use Rattle.seek.specs.Search as search
 use Rattle.seek.specs.declared.types.Settled.{Settled}
 use Rattle.seek.specs.declared.types.Proved.{Proved}
 use Rattle.seek.specs.declared.types.Judged.{Judged}
-use Rattle.seek.specs.declared.types.Proving as seek
+use Rattle.seek.specs.declared.types.Proving.{Proving}
 use Rattle.live.specs.Path.{withIds, withSizes, withLadder, withMisses}
 use Rattle.live.specs.Answers.{refused, isAccepted}
 use Rattle.live.specs.Probe.{takeIdOf, sendOf}
@@ -23,12 +24,13 @@ use Rattle.live.specs.declared.types.Answer.the-variants.{Id, Len, Flag,
 
 -- ---- fresh and size
 
--- `fresh` sets the epoch to the next identifier, zeroes misses and clears seek, `fallen` and the last size, not the proven size
+-- `fresh` sets the epoch to the next identifier, zeroes misses and clears seek, `fallen` and the last size, not the
+-- proven size
 abbrev pub freshOf : Liveness → Liveness
 freshOf p =
-    withIds
-    (withMisses (withSizes (withLadder p (record { last = len.None; fallen = false })) (search.freshSizes (p .sizes))) 0)
-    (freshIds (p .ids))
+    withLadder
+    (withSizes (withMisses (withIds p (freshIds (p .ids))) 0) (search.freshSizes (p .sizes)))
+    (record { last = len.None; fallen = false })
 
 -- 5 for a full size above 65,535 or below 27; else the ladder's size
 unfoldable pub sizeOf : Liveness → ℕ → Answer
@@ -40,13 +42,15 @@ sizeOf p full =
 -- ---- prove
 
 -- the path with the sizes that the rule gives, and its answer
-abbrev pub provedBy : Liveness → seek.Proving → Outcome
+abbrev pub provedBy : Liveness → Proving → Outcome
 provedBy p d = record { path = withSizes p (d .sizes); answer = Flag (d .changed) }
 
 -- 5 for a size above 65,535 or below 27; else the size is proven
 unfoldable pub proveOf : Liveness → ℕ → Outcome
 proveOf p n =
-    cond (isOverlong n) (refused p Length) (cond (isUndersize n) (refused p Length) (provedBy p (search.provenSizes (p .sizes) n)))
+    cond (isOverlong n)
+    (refused p Length)
+    (cond (isUndersize n) (refused p Length) (provedBy p (search.provenSizes (p .sizes) n)))
 
 -- ---- the proposal
 
@@ -123,4 +127,6 @@ unfoldable pub seekJudgeOf : Liveness → ℕ → ℕ → ℕ → Outcome
 seekJudgeOf p now timeout gap =
     cond (isEndless timeout)
     (refused p Duration)
-    (cond (isEndless gap) (refused p Duration) (judgedBy p (search.judgedSearch (p .sizes) (p .ids .answered) now timeout gap)))
+    (cond (isEndless gap)
+    (refused p Duration)
+    (judgedBy p (search.judgedSearch (p .sizes) (p .ids .answered) now timeout gap)))

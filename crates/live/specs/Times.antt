@@ -1,5 +1,5 @@
--- Round trips, ETX, frames received and the stop of a path (document 01, "RTT, ETX, score" and "Files and tail"), with the refusals
--- 5 and 6. The counters are the Rust's: one frame and its bytes more or less, modulo 2 ^ 32.
+-- Round trips, ETX, frames received and the stop of a path (document 01, "RTT, ETX, score" and "Files and tail"), with
+-- the refusals 5 and 6. The counters are the Rust's: one frame and its bytes more or less, modulo 2 ^ 32.
 use Prim.Native.Nat.{ℕ, _+_, _-_, _%_, _^_}
 use mathlib.Core.Bool.{Bool, cond}
 use Rattle.base.specs.Limits.{isOverlong, isEndless}

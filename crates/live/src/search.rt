@@ -1,6 +1,7 @@
 // Sizes: the ladder, the proven size and the upward search.
 ghost use mathlib.Core.Path.{_≡_};
-ghost use Rattle.live.specs.Search.{freshOf, lenOr, sizeOf, seekSizeOf, proveOf, seekSendOf, ringed, seekRingOf, seekAnswerOf, seekProvedOf, seekJudgeOf};
+ghost use Rattle.live.specs.Search.{freshOf, lenOr, sizeOf, seekSizeOf, proveOf, seekSendOf, ringed, seekRingOf};
+ghost use Rattle.live.specs.Search.{seekAnswerOf, seekProvedOf, seekJudgeOf};
 use crate::answers::refused;
 use crate::types::*;
 use base::limits::DURATION_END;
@@ -8,7 +9,6 @@ use base::limits::MAX_LEN;
 use base::limits::MIN_LEN;
 use base::types::*;
 use seek::types::Ladder;
-use seek::types::Sizes;
 
 // A length, or the refusal where there is none.
 fn len_or(len: MaybeLen, why: Refusal) -> Answer

@@ -1,7 +1,8 @@
 // Round trips, ETX, frames received, and the stop of a path.
 ghost use mathlib.Core.Path.{_≡_};
 ghost use Rattle.stop.specs.Silence.{stoppedOf, heldUntil, recheckOf};
-ghost use Rattle.live.specs.Times.{sampleOf, foldedOf, timeoutOf, heardOf, carriedOf, shedOf, haltedOf, spentOf, owedOf, rebasedOf};
+ghost use Rattle.live.specs.Times.{sampleOf, foldedOf, timeoutOf, heardOf, carriedOf, shedOf, haltedOf, spentOf};
+ghost use Rattle.live.specs.Times.{owedOf, rebasedOf};
 use crate::answers::refused;
 use crate::types::*;
 use base::limits::DURATION_END;

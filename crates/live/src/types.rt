@@ -1,12 +1,13 @@
-// What a path's liveness is made of, and what its methods answer. A field that may be missing is an enum and stands in a small
-// struct, which is made anew and stored whole.
+// What a path's liveness is made of, and what its methods answer. A field that may be missing is an enum and stands in
+// a small struct, which is made anew and stored whole.
 use base::types::*;
 use ring::types::*;
 use rtt::types::*;
 use seek::types::*;
 use stop::types::*;
 
-// The frames received: when the last one and the last session datagram came, how many, and their bytes, both modulo 2^32.
+// The frames received: when the last one and the last session datagram came, how many, and their bytes, both modulo
+// 2^32.
 pub struct Traffic {
     pub heard_at: MaybeTime,
     pub data_at: MaybeTime,
@@ -14,7 +15,8 @@ pub struct Traffic {
     pub bytes: u32,
 }
 
-// One path: RTTs, ring, late list, silence clock with the stop, identifiers, sizes with the search, ladder, traffic, ETX, misses.
+// One path: RTTs, ring, late list, silence clock with the stop, identifiers, sizes with the search, ladder, traffic,
+// ETX, misses.
 pub struct Liveness {
     pub rtts: Rtts,
     pub ring: [Sent; RING],
@@ -34,9 +36,10 @@ pub struct Taking {
     pub id: u32,
 }
 
-// What a method answers: Done where it has nothing to say; Id of `send`, `seek_send` and `seek_ring`; InTime and Late of `answer`, with
-// the probe; Idle and Lapsed of `expire`, with whether the one that lapsed was a miss; Len of `size`, `seek_size` and `seek_answer`;
-// Time of `timeout`; Flag of `prove` (the proven size changed), `seek_proved` (it rose) and `seek_judge` (the probe was lost now).
+// What a method answers: Done where it has nothing to say; Id of `send`, `seek_send` and `seek_ring`; InTime and Late
+// of `answer`, with the probe; Idle and Lapsed of `expire`, with whether the one that lapsed was a miss; Len of `size`,
+// `seek_size` and `seek_answer`; Time of `timeout`; Flag of `prove` (the proven size changed), `seek_proved` (it rose)
+// and `seek_judge` (the probe was lost now).
 pub enum Answer {
     Done,
     Id(u32),

@@ -1,4 +1,5 @@
--- One law for every width: a loop that writes the lowest byte of what is left, and divides that by 256, writes `le w x` over the front.
+-- One law for every width: a loop that writes the lowest byte of what is left, and divides that by 256, writes `le w x`
+-- over the front.
 -- Assumes nothing.
 use mathlib.Core.Path.{_≡_, refl, sym, ap, _∙_, subst}
 use mathlib.Core.List.{List, [], _∷_, _++_, append-assoc, append-nil}

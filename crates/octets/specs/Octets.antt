@@ -1,4 +1,5 @@
--- Numbers as little-endian bytes (document 01, "Files and tail": "little-endian"), and what a writer leaves of lent bytes.
+-- Numbers as little-endian bytes (document 01, "Files and tail": "little-endian"), and what a writer leaves of lent
+-- bytes.
 use mathlib.Core.List.{List, [], _∷_, _++_}
 use mathlib.Core.Bool.{Bool, cond, _&&_}
 use Prim.Native.Nat.{ℕ, zero, suc, _+_, _*_, _/_, _%_}

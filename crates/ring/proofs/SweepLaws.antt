@@ -64,3 +64,11 @@ shifted l d x h =
     let k : length l ≤ 4 = omega arith in
     let e : drop 4 l ≡ [] = drop-of-length-le l k in
     simp (drop-cons l 1 d (omega arith), drop-cons l 2 d (omega arith), drop-cons l 3 d (omega arith), e)
+
+-- a late list with places stays as long as it was: after a lapse, and after a sweep
+pub remember-long : (l : List Sent) (s : Sent) → 0 < length l → length (remembered l s) ≡ length l
+remember-long l s h = length-append (drop 1 l) (s ∷ []) ∙ omega (arith, length-drop 1 l)
+
+pub sweep-long : (late ring : List Sent) → length (swept late ring) ≡ length late
+sweep-long late ring =
+    length-drop (length (waiting ring)) (late ++ waiting ring) ∙ omega (arith, length-append late (waiting ring))

@@ -1,4 +1,5 @@
--- Which probe lapses, and which are deferred on the way to it (document 01, "Ring (8) and late list (4)", `expire` and `fallen`).
+-- Which probe lapses, and which are deferred on the way to it (document 01, "Ring (8) and late list (4)", `expire` and
+-- `fallen`).
 use Prim.Native.Nat.{ℕ, suc}
 use mathlib.Core.List.{List, [], _∷_}
 use mathlib.Core.Bool.{Bool, true, false, cond, _&&_}
@@ -20,7 +21,8 @@ passedAt now overdue due = cond overdue (ltb due now) (leb due now)
 abbrev pub isPassed : ℕ → Bool → Sent → Bool
 isPassed now overdue s = cond (s .used) (passedAt now overdue (s .due)) false
 
--- if the last data instant is above its sent one, and its cap deadline, deadline(sent, cap), hasn't passed, its due becomes that
+-- if the last data instant is above its sent one, and its cap deadline, deadline(sent, cap), hasn't passed, its due
+-- becomes that
 abbrev pub deferOf : MaybeTime → ℕ → ℕ → Bool → Sent → MaybeTime
 deferOf None cap now overdue s = None
 deferOf (Some t) cap now overdue s =
@@ -41,8 +43,8 @@ abbrev pub lapseOr : MaybeTime → Sent → List Sent → Scanned → Scanned
 lapseOr None s ss r = record { ring = s ∷ ss; slot = 0 }
 lapseOr (Some u) s ss r = behind (withDue s u) r
 
--- the entries as the scan leaves them, and the place of the one that lapses, or the length. A deferred entry has not passed any
--- more, so that a scan that starts over comes to the entry behind it.
+-- the entries as the scan leaves them, and the place of the one that lapses, or the length. A deferred entry has not
+-- passed any more, so that a scan that starts over comes to the entry behind it.
 abbrev pub scanOf : (Sent → Bool) → (Sent → MaybeTime) → List Sent → Scanned
 scanOf p defer [] = record { ring = []; slot = 0 }
 scanOf p defer (s ∷ ss) = cond (p s) (lapseOr (defer s) s ss (scanOf p defer ss)) (behind s (scanOf p defer ss))

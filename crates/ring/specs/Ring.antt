@@ -1,4 +1,5 @@
--- The places of the ring and of the late list (document 01, "Ring (8) and late list (4)"). A place that is not used is free.
+-- The places of the ring and of the late list (document 01, "Ring (8) and late list (4)"). A place that is not used is
+-- free.
 use Prim.Native.Nat.{ℕ, _-_, _≤_}
 use mathlib.Core.Path.{_≡_}
 use mathlib.Core.List.{List, [], _∷_, _++_, map}
@@ -67,8 +68,8 @@ waiting l = keep isUsed l
 abbrev pub packed : ℕ → List Sent → List Sent
 packed n l = waiting l ++ replicate (n - length (waiting l)) noSent
 
--- "After an answer or a lapse the ring closes up in its order": the waiting probes stand at the front, and free places behind them.
--- `closed-*` of proofs/ClosedLaws.antt: an empty ring is so, and what send, answer and expire make of one
+-- "After an answer or a lapse the ring closes up in its order": the waiting probes stand at the front, and free places
+-- behind them. `closed-*` of proofs/ClosedLaws.antt: an empty ring is so, and what send, answer and expire make of one
 pub record Closed (l : List Sent) : Type 0 where
   pub fits : length (waiting l) ≤ maxWaiting
   pub shut : l ≡ packed maxWaiting l

@@ -1,4 +1,5 @@
-// The probe that lapses: the first whose due has passed and that no data defers (the Rust's `defer` and the loop of `expire`).
+// The probe that lapses: the first whose due has passed and that no data defers (the Rust's `defer` and the loop of
+// `expire`).
 ghost use mathlib.Core.Path.{_≡_};
 ghost use Rattle.base.specs.Seq.{position};
 ghost use Rattle.ring.specs.Lapse.{passedAt, isPassed, deferOf, scanOf};

@@ -16,7 +16,8 @@ pub struct Sent {
     pub used: bool,
 }
 
-// The identifiers that a path keeps: the next, the newest answered in time, the first of the current state, and the first that counts.
+// The identifiers that a path keeps: the next, the newest answered in time, the first of the current state, and the
+// first that counts.
 pub struct Ids {
     pub next_id: MaybeId,
     pub answered: MaybeId,

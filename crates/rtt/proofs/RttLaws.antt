@@ -1,15 +1,16 @@
--- What `sample` does to the three round trips of a path: none is there before the first sample; after a sample of x the last is x, and
--- the least of the window and the least over the horizon are there and at most x. For a later reader of a path's standing.
+-- What `sample` does to the three round trips of a path: none is there before the first sample; after a sample of x the
+-- last is x, and the least of the window and the least over the horizon are there and at most x. For a later reader of
+-- a path's standing.
 -- Assumes nothing.
 use Prim.Native.Nat.{ℕ, suc, _<_, _≤_}
 use mathlib.Core.Path.{_≡_, refl}
+use mathlib.Core.Logic.{inl, inr}
 use mathlib.Core.List.{List, [], _∷_, _++_, map}
 use mathlib.Core.Bool.{Bool, true}
 use native.Mathlib.Omega.{arith}
 use lib.ListN.{length, getD, set, take, drop, length-map, length-set}
 use Rattle.base.specs.Seq.{keep}
-use Rattle.base.specs.declared.types.MaybeTime.{MaybeTime}
-use Rattle.base.specs.declared.types.MaybeTime.the-variants.{None, Some}
+use Rattle.base.specs.declared.types.MaybeTime.the-variants.{Some}
 use Rattle.base.proofs.Cases.{on-flag, on-order, never}
 use Rattle.base.proofs.ScanLaws.{map-append, keep-set}
 use Rattle.base.proofs.FirstLaws.{by-least}
@@ -20,16 +21,11 @@ use Rattle.rtt.specs.Samples.{noSample, isSample, sampleEarlier, keptSam
 use Rattle.rtt.specs.Spans as spans
 use Rattle.rtt.specs.Spans.{noSpan, isSpan, keptSpan, keptSpans, newestSpan, spanPlace, joinsOf, joinedOf, newSpan, spanOf, baseRtt}
 use Rattle.rtt.specs.Rtts.{newRtts, sampledRtts}
+use Rattle.rtt.specs.Trips.{Under, Sized, Unmeasured, Measured, Trips}
 use Rattle.rtt.specs.declared.types.Sample.{Sample}
 use Rattle.rtt.specs.declared.types.Span.{Span}
 use Rattle.rtt.specs.declared.types.Rtts.{Rtts}
 use Rattle.rtt.proofs.SpanLaws.{joins-none}
-
--- there is a number, and it is at most x
-pub record Under (x : ℕ) (m : MaybeTime) : Type 0 where
-  pub least : ℕ
-  pub is : m ≡ Some least
-  pub low : least ≤ x
 
 -- the least of a list that has one of at most x
 least-under : (a b : List ℕ) (x y : ℕ) → y ≤ x → Under x (leastOf (a ++ (y ∷ b)))
@@ -74,23 +70,6 @@ span-least now x horizon l h =
 
 -- ---- the three together
 
--- 32 places for samples and 8 for spans
-pub record Sized (r : Rtts) : Type 0 where
-  pub samples : length (r .samples) ≡ 32
-  pub spans : length (r .spans) ≡ 8
-
--- nothing is measured: none of the three is there
-pub record Unmeasured (r : Rtts) : Type 0 where
-  pub last : r .rtt ≡ None
-  pub least : minRtt (r .samples) ≡ None
-  pub base : baseRtt (r .spans) ≡ None
-
--- x was measured last: all three are there, and none is above x
-pub record Measured (r : Rtts) (x : ℕ) : Type 0 where
-  pub last : r .rtt ≡ Some x
-  pub least : Under x (minRtt (r .samples))
-  pub base : Under x (baseRtt (r .spans))
-
 pub new-sized : Sized newRtts
 new-sized = record { samples = refl; spans = refl }
 
@@ -116,4 +95,16 @@ sample-sized r now x window horizon s =
           on-flag (joinsOf now horizon (getD m (newestSpan m) noSpan))
           (λ e. rw (e, length-set, length-map) (s .spans))
           (λ e. rw (e, length-set, length-map) (s .spans));
+    }
+
+-- ---- what a path keeps of its round trips
+
+pub new-trips : Trips newRtts
+new-trips = record { sized = new-sized; together = inl new-unmeasured }
+
+pub sample-trips : (r : Rtts) (now x window horizon : ℕ) → Trips r → Trips (sampledRtts r now x window horizon)
+sample-trips r now x window horizon t =
+    record {
+      sized = sample-sized r now x window horizon (t .sized);
+      together = inr (x, sample-measured r now x window horizon (t .sized));
     }

@@ -3,3 +3,4 @@ pub mod Times
 pub mod Samples
 pub mod Spans
 pub mod Rtts
+pub mod Trips

@@ -1,4 +1,5 @@
--- What a path has measured, and what one more round trip makes of it (document 01, "RTT, ETX, score", the rule of `sample`).
+-- What a path has measured, and what one more round trip makes of it (document 01, "RTT, ETX, score", the rule of
+-- `sample`).
 use Prim.Native.Nat.{ℕ}
 use lib.ListN.{replicate}
 use Rattle.base.specs.declared.types.MaybeTime.the-variants.{None, Some}

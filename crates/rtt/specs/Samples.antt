@@ -1,5 +1,5 @@
--- The samples of the window (document 01, "RTT, ETX, score": "`sample` drops samples older than the window, then fills the first gap,
--- else replaces the oldest (first of equals) of 32").
+-- The samples of the window (document 01, "RTT, ETX, score": "`sample` drops samples older than the window, then fills
+-- the first gap, else replaces the oldest (first of equals) of 32").
 use Prim.Native.Nat.{ℕ}
 use mathlib.Core.List.{List, map}
 use mathlib.Core.Bool.{Bool, true, false, cond, _&&_}

@@ -1,6 +1,6 @@
--- The spans of the horizon (document 01, "RTT, ETX, score": "Spans with now - to > horizon are dropped; then the sample joins the
--- newest of 8 (last of equals) while now - from < horizon/6, rounded down: to becomes now, the RTT the smaller. Else a new span takes
--- the first gap or the oldest's place, as above"). A span's age is its `from`.
+-- The spans of the horizon (document 01, "RTT, ETX, score": "Spans with now - to > horizon are dropped; then the sample
+-- joins the newest of 8 (last of equals) while now - from < horizon/6, rounded down: to becomes now, the RTT the
+-- smaller. Else a new span takes the first gap or the oldest's place, as above"). A span's age is its `from`.
 use Prim.Native.Nat.{ℕ, _/_, min}
 use mathlib.Core.List.{List, map}
 use mathlib.Core.Bool.{Bool, true, false, cond, _&&_}

@@ -1,4 +1,5 @@
--- The timeout (document 01, "RTT, ETX, score": "Timeout: the largest of floor, 3 × last, and the smaller of 3 × largest and cap").
+-- The timeout (document 01, "RTT, ETX, score": "Timeout: the largest of floor, 3 × last, and the smaller of 3 × largest
+-- and cap").
 use Prim.Native.Nat.{ℕ, _*_, _-_, _^_, min, max}
 use Rattle.base.specs.declared.types.MaybeTime.{MaybeTime}
 use Rattle.base.specs.declared.types.MaybeTime.the-variants.{None, Some}

@@ -1,5 +1,6 @@
--- The score of a path (document 01, "RTT, ETX, score": "An RTT in seconds is whole seconds as a float plus the nanoseconds left over as
--- a float divided by 10^9; a score takes that times 1000"), by the Rust's `score` and `steady`: from the first sample on.
+-- The score of a path (document 01, "RTT, ETX, score": "An RTT in seconds is whole seconds as a float plus the
+-- nanoseconds left over as a float divided by 10^9; a score takes that times 1000"), by the Rust's `score` and
+-- `steady`: from the first sample on.
 use lib.Ieee.{Float}
 use Rattle.base.specs.declared.types.MaybeTime.{MaybeTime}
 use Rattle.base.specs.declared.types.MaybeTime.the-variants as time

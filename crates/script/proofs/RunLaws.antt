@@ -1,13 +1,12 @@
 -- One turn of a script after the other: what is left to run from here gives what the whole gives.
 -- Assumes nothing.
 use Prim.Native.Nat.{ℕ, zero, suc, _+_, _-_, _*_, _/_, _%_, _<_, _≤_}
-use mathlib.Core.Path.{_≡_, refl, sym, ap, _∙_}
-use mathlib.Core.List.{List, [], _∷_, _++_, append-nil, append-assoc}
-use mathlib.Core.Bool.{Bool, true, false}
+use mathlib.Core.Path.{_≡_, sym, ap, _∙_}
+use mathlib.Core.List.{List, [], _++_, append-nil, append-assoc}
 use native.Mathlib.Omega.{arith}
 use borrow.Author.Tests.{lt-ltb, le-ltb, eq-eqb, ne-eqb}
 use borrow.Rule.Slice.PartMut.{midOf, putMid}
-use lib.ListN.{length, take, drop, length-append, length-drop}
+use lib.ListN.{length, drop, length-append, length-drop}
 use lib.Seq.{drop-drop, take-all}
 use native.Mathlib.Nat.{le-of-eq}
 use Rattle.base.proofs.Cases.{on-order}
@@ -23,7 +22,8 @@ use Rattle.script.specs.Run.{callFrom, callsOf, runOf, answersOf, bytesO
 use Rattle.script.specs.declared.types.Call.{Call}
 use Rattle.script.specs.declared.types.Called.{Called}
 
--- a script s, of which the calls before `at` have been carried out, their answers written over the front of l₀, and the path is p
+-- a script s, of which the calls before `at` have been carried out, their answers written over the front of l₀, and the
+-- path is p
 pub record Running (s l₀ l : List ℕ) (p : Liveness) (at : ℕ) : Type 0 where
   pub left : ℕ
   pub long : at + 48 * left ≡ length s

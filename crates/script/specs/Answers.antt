@@ -1,6 +1,6 @@
 -- Answers as six numbers: the refusal number, 0 if accepted, then the values, 0 where there are fewer than five.
 use Prim.Native.Nat.{ℕ}
-use mathlib.Core.List.{List, [], _∷_}
+use mathlib.Core.List.{[], _∷_}
 use Rattle.base.specs.Seq.{flagOf}
 use Rattle.base.specs.declared.types.Refusal.the-variants.{Kind}
 use Rattle.base.specs.declared.types.MaybeTime.{MaybeTime}
@@ -48,9 +48,9 @@ abbrev pub sized : Liveness → MaybeLen → Called
 sized p x = tagged p (lenTag x) (lenOrZero x)
 
 -- a score, by its pattern
-abbrev pub scored : Liveness → MaybeScore → Called
-scored p score.None = tagged p 0 0
-scored p (score.Some x) = tagged p 1 (etxBits x)
+abbrev pub scoreCalled : Liveness → MaybeScore → Called
+scoreCalled p score.None = tagged p 0 0
+scoreCalled p (score.Some x) = tagged p 1 (etxBits x)
 
 -- whether what `answer` gave is a matching answer
 abbrev pub matched : Outcome → Called

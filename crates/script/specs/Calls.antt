@@ -1,7 +1,6 @@
--- The calls of a script, by their numbers: each method's definition on the numbers of the call, and its answer as numbers. A number
--- wider than a method's parameter is taken modulo its width; a flag is set if its number is odd.
+-- The calls of a script, by their numbers: each method's definition on the numbers of the call, and its answer as
+-- numbers. A number wider than a method's parameter is taken modulo its width; a flag is set if its number is odd.
 use Prim.Native.Nat.{ℕ, _%_, _^_}
-use mathlib.Core.List.{List}
 use mathlib.Core.Bool.{Bool, true, cond}
 use lib.Dec.{eqb, ltb}
 use Rattle.base.specs.Seq.{flagOf}
@@ -12,12 +11,14 @@ use Rattle.rtt.specs.Spans.{baseRtt}
 use Rattle.stop.specs.Silence.{stoppedOf, heldUntil, recheckOf}
 use Rattle.live.specs.New.{newLiveness, roomOf}
 use Rattle.live.specs.Probe.{takeIdOf, sendOf, answerOf, expireOf, lapseOf, clearOf, thawOf}
-use Rattle.live.specs.Search.{freshOf, sizeOf, proveOf, seekSizeOf, seekSendOf, seekRingOf, seekAnswerOf, seekProvedOf, seekJudgeOf}
-use Rattle.live.specs.Times.{sampleOf, foldedOf, timeoutOf, heardOf, carriedOf, shedOf, haltedOf, spentOf, owedOf, rebasedOf}
+use Rattle.live.specs.Search.{freshOf, sizeOf, proveOf, seekSizeOf, seekSendOf, seekRingOf, seekAnswerOf, seekProvedOf}
+use Rattle.live.specs.Search.{seekJudgeOf}
+use Rattle.live.specs.Times.{sampleOf, foldedOf, timeoutOf, heardOf, carriedOf, shedOf, haltedOf, spentOf, owedOf}
+use Rattle.live.specs.Times.{rebasedOf}
 use Rattle.live.specs.declared.types.Liveness.{Liveness}
 use Rattle.image.specs.Image.{etxBits}
 use Rattle.scores.specs.Scores.{pathScore, pathSteady}
-use Rattle.script.specs.Answers.{answered, outcome, plain, kindless, valued, timed, sized, scored, matched}
+use Rattle.script.specs.Answers.{answered, outcome, plain, kindless, valued, timed, sized, scoreCalled, matched}
 use Rattle.script.specs.declared.types.Call.{Call}
 use Rattle.script.specs.declared.types.Called.{Called}
 
@@ -100,8 +101,8 @@ readCall p c =
 -- 37 score, 38 steady, 39 misses, 40 rtt, 41 etx by its pattern, 42 mtu
 unfoldable pub scoreCall : Liveness → Call → Called
 scoreCall p c =
-    cond (eqb (c .op) 37) (scored p (pathScore p))
-    (cond (eqb (c .op) 38) (scored p (pathSteady p))
+    cond (eqb (c .op) 37) (scoreCalled p (pathScore p))
+    (cond (eqb (c .op) 38) (scoreCalled p (pathSteady p))
     (cond (eqb (c .op) 39) (valued p (p .misses))
     (cond (eqb (c .op) 40) (timed p (p .rtts .rtt))
     (cond (eqb (c .op) 41) (valued p (etxBits (p .etx)))

@@ -1,8 +1,9 @@
--- A whole script: calls of 48 bytes each, carried out one after the other on a path that starts anew; six numbers of eight bytes for
--- each answer, then the image of the path. Refusals: 13 where the bytes end inside a call, 16 where too few are lent.
+-- A whole script: calls of 48 bytes each, carried out one after the other on a path that starts anew; six numbers of
+-- eight bytes for each answer, then the image of the path. Refusals: 13 where the bytes end inside a call, 16 where too
+-- few are lent.
 use Prim.Native.Nat.{ℕ, zero, suc, _+_, _/_, _%_}
 use mathlib.Core.List.{List, [], _∷_, _++_}
-use mathlib.Core.Bool.{Bool, cond}
+use mathlib.Core.Bool.{cond}
 use lib.Dec.{eqb, ltb}
 use lib.ListN.{length, drop}
 use Rattle.base.specs.Refusals.{refusalNumber}

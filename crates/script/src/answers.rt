@@ -1,6 +1,7 @@
 // Answers as numbers: the refusal number or 0, then the values, 0 where there are fewer than five.
 ghost use mathlib.Core.Path.{_≡_};
-ghost use Rattle.script.specs.Answers.{answered, outcome, plain, valued, tagged, timed, sized, scored, matched, kindless};
+ghost use Rattle.script.specs.Answers.{answered, outcome, plain, valued, tagged, timed, sized, scoreCalled, matched};
+ghost use Rattle.script.specs.Answers.{kindless};
 use crate::types::Called;
 use base::types::*;
 use live::types::*;
@@ -85,7 +86,7 @@ pub fn tell_len(path: Liveness, x: MaybeLen) -> Called
 
 // A score by its pattern, if there is one.
 pub fn tell_score(path: Liveness, x: MaybeScore) -> Called
-    ensures { λ r. ⌜ r ≡ scored path x ⌝ }
+    ensures { λ r. ⌜ r ≡ scoreCalled path x ⌝ }
 {
     match x {
         MaybeScore::None => tell_tagged(path, 0, 0),

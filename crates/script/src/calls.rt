@@ -1,9 +1,10 @@
 // The calls of a script, by their numbers.
 ghost use mathlib.Core.Path.{_≡_};
-ghost use Rattle.script.specs.Calls.{low32, isOdd, sentOf, probeCall, lineCall, sizeCall, seekCall, stopCall, timeCall, readCall, scoreCall, countCall, highCall, callOf};
+ghost use Rattle.script.specs.Calls.{low32, isOdd, sentOf, probeCall, lineCall, sizeCall, seekCall, stopCall};
+ghost use Rattle.script.specs.Calls.{timeCall, readCall, scoreCall, countCall, highCall, callOf};
 use crate::answers::*;
 use crate::types::*;
-use live::types::*;
+use live::types::Liveness;
 use ring::types::Sent;
 
 // The lowest 32 bits of a number.

@@ -23,7 +23,8 @@ fn call_from(part: &[u8]) -> Call
 
 // Carries out a script and writes its answers and the image of the path after it; or says 13 or 16, and writes nothing.
 pub fn run_script(script: &[u8], out: &mut [u8]) -> u64
-    ensures { λ r. ⌜ (r ≡ scriptNumber (now (script .entry)) (length (now (out .entry)))) × (now (out .exit) ≡ scriptOut (now (script .entry)) (now (out .entry))) ⌝ }
+    ensures { λ r. ⌜ (r ≡ scriptNumber (now (script .entry)) (length (now (out .entry))))
+        × (now (out .exit) ≡ scriptOut (now (script .entry)) (now (out .entry))) ⌝ }
 {
     if script.len() % 48 != 0 {
         return Refusal::Cut.number();

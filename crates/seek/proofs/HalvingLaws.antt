@@ -1,5 +1,5 @@
--- The halving of the gap between proven and lost: a proposed size lies strictly between them, and either outcome leaves at most half of
--- the gap, rounded up.
+-- The halving of the gap between proven and lost: a proposed size lies strictly between them, and either outcome leaves
+-- at most half of the gap, rounded up.
 -- Assumes nothing.
 use mathlib.Core.Path.{_≡_}
 use Prim.Native.Nat.{ℕ, _+_, _-_, _*_, _/_, _<_, _≤_}

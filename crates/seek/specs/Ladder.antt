@@ -1,5 +1,6 @@
--- The ladder (document 01, "Ring (8) and late list (4)"): "`size(full)`: full unless fallen with a last size; then after a last size of
--- 27 or less, full; else the first of full, 3/4, 1/2 (rounded down) that is below the last and above 27; else 27."
+-- The ladder (document 01, "Ring (8) and late list (4)"): "`size(full)`: full unless fallen with a last size; then
+-- after a last size of 27 or less, full; else the first of full, 3/4, 1/2 (rounded down) that is below the last and
+-- above 27; else 27."
 use mathlib.Core.Bool.{Bool, cond, _&&_}
 use mathlib.Core.List.{List, [], _∷_, map}
 use Prim.Native.Nat.{ℕ, _*_, _/_}

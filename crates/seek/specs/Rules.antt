@@ -1,5 +1,5 @@
--- The size search on sizes alone, with no clock and no identifiers (document 01, "Size search"). A lost size of 0 is none; the least
--- provable size, 27, is an argument.
+-- The size search on sizes alone, with no clock and no identifiers (document 01, "Size search"). A lost size of 0 is
+-- none; the least provable size, 27, is an argument.
 use mathlib.Core.Bool.{Bool, true, not, cond, _&&_}
 use Prim.Native.Nat.{ℕ, _+_, _-_, _/_, min}
 use lib.Dec.{ltb, leb, eqb}
@@ -7,8 +7,8 @@ use Rattle.base.specs.Limits.{isOverlong, isUndersize}
 use Rattle.base.specs.declared.types.MaybeLen.{MaybeLen}
 use Rattle.base.specs.declared.types.MaybeLen.the-variants.{None, Some}
 
--- "A proposal needs .. proven < full. With no lost size: full. With lost > proven + 32: proven + (lost - proven)/2, rounded down.
--- Otherwise none."
+-- "A proposal needs .. proven < full. With no lost size: full. With lost > proven + 32: proven + (lost - proven)/2,
+-- rounded down. Otherwise none."
 unfoldable pub proposalOf : ℕ → ℕ → ℕ → MaybeLen
 proposalOf lost proven full =
     cond (ltb proven full)

@@ -1,4 +1,5 @@
--- The size search of a path (document 01, "Size search"): the rules of specs/Rules.antt with the clock and the identifiers.
+-- The size search of a path (document 01, "Size search"): the rules of specs/Rules.antt with the clock and the
+-- identifiers.
 use mathlib.Core.Bool.{Bool, true, false, not, cond, _&&_}
 use Prim.Native.Nat.{ℕ, min}
 use lib.Dec.{leb, eqb}
@@ -90,8 +91,8 @@ endOf s proven now =
 abbrev pub loseOf : Seek → ℕ → ℕ → ℕ → Seek
 loseOf s proven n now = endOf (withSeek s (s .at) (s .len) (lostWith (s .lost) n)) proven now
 
--- "proven rises to the smaller of sent and acked if that is above 27 and above proven. Acked < sent also loses the sent size." After it
--- the clearing, with the new proven size
+-- "proven rises to the smaller of sent and acked if that is above 27 and above proven. Acked < sent also loses the sent
+-- size." After it the clearing, with the new proven size
 unfoldable pub ackedSearch : Sizes → ℕ → ℕ → ℕ → Proved
 ackedSearch s sent acked now =
     let proven = raisedOf minLen (s .proven) (min sent acked) in

@@ -15,7 +15,8 @@ fn fits(len: u16, last: u16) -> bool
     (len < last) & (len > PATH_PROBE_MIN_SIZE)
 }
 
-// The size after one of `last` bytes: the first of full, 3/4 and 1/2 that fits, else the smallest; full after the smallest.
+// The size after one of `last` bytes: the first of full, 3/4 and 1/2 that fits, else the smallest; full after the
+// smallest.
 pub fn rung(full: u16, last: u16) -> u16
     ensures { λ r. ⌜ r ≡ rungOf full last ⌝ }
 {

@@ -6,7 +6,8 @@ use crate::types::*;
 use base::limits::PATH_PROBE_MIN_SIZE;
 use base::types::*;
 
-// The next size to try: full with none lost, else halfway between proven and lost; none once they are close, or full is proven.
+// The next size to try: full with none lost, else halfway between proven and lost; none once they are close, or full is
+// proven.
 pub fn proposal(lost: u16, proven: u16, full: u16) -> MaybeLen
     ensures { λ r. ⌜ r ≡ proposalOf lost proven full ⌝ }
 {

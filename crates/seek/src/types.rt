@@ -10,8 +10,8 @@ pub const SEEK_STEP: u32 = 32;
 // How long a search that ended waits before it starts again, in nanoseconds: 600 s.
 pub const SEEK_RAISE: u64 = 600_000_000_000;
 
-// A search: with a probe out its send instant, else the next try (none: at once); its identifier; its length, 0 with none out; the
-// smallest size lost, 0 with none lost.
+// A search: with a probe out its send instant, else the next try (none: at once); its identifier; its length, 0 with
+// none out; the smallest size lost, 0 with none lost.
 pub struct Seek {
     pub at: MaybeTime,
     pub probe_id: u32,

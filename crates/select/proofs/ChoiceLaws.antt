@@ -1,20 +1,41 @@
--- What is true of every choice: the chosen one is a held rival, pinned if any is, of the highest tier of those, and fitting if any of
--- these fits; and one is chosen exactly if the field is not empty.
+-- What is true of every choice: the chosen one is a held rival, pinned if any is, of the highest tier of those, and
+-- fitting if any of these fits; and one is chosen exactly if the field is not empty.
 -- Assumes nothing.
-use Prim.Native.Nat.{ℕ, zero, suc, _+_, max, _<_, _≤_}
+use Prim.Native.Nat.{ℕ, zero, suc, _+_, _<_}
 use mathlib.Core.Path.{_≡_, refl, ap, sym, _∙_}
 use mathlib.Core.Bool.{Bool, true, false, not, cond, _&&_, _||_}
-use mathlib.Core.List.{List, [], _∷_, map, foldl}
+use mathlib.Core.List.{List, [], _∷_, _++_}
 use native.Mathlib.Omega.{arith}
-use lib.Dec.{eqb, leb}
 use lib.ListN.{length, getD}
 use lib.Ieee.{Float, binary64, mul}
 use Rattle.base.specs.Seq.{every, keep}
-use Rattle.base.proofs.Cases.{on-flag, on-order, never}
-use borrow.Author.Tests.{le-leb, eqb-true, eq-eqb, not-true}
+use Rattle.base.proofs.Cases.{on-flag, never}
+use borrow.Author.Tests.{eqb-true, not-true}
+use Rattle.base.specs.First.{headOf, unbeaten}
+use Rattle.base.proofs.KeepLaws.{anyIn, every-head, every-tail, every-keep, keep-passes, keep-any, keep-from}
+use Rattle.base.proofs.FirstLaws.{Strict, first-passes, first-cases}
 use Rattle.base.proofs.ScanLaws.{every-of}
-use Rattle.select.specs.Rivals.{noRival, isLong, atPlace, placed, byScore, byMedium, byTrip}
-use Rattle.select.specs.Choice.{noneIs, onlyAny, rivalsOf, namedOf, highestOf, highOf, rankedOf, betterOf, firstBy, orElse, scoredOf, nearOf, preferredOf, quickOf, quickest, amongScored, amongRanked, pickedOf, isLongHeld, slotOf, chooseOf}
+use Rattle.select.specs.Rivals.{noRival, isLong, atPlace, placed, byTier, byScore, byMedium}
+use Rattle.select.specs.Choice.{
+  noneIs,
+  onlyAny,
+  rivalsOf,
+  namedOf,
+  highOf,
+  rankedOf,
+  firstBy,
+  orElse,
+  scoredOf,
+  nearOf,
+  preferredOf,
+  quickOf,
+  quickest,
+  amongRanked,
+  pickedOf,
+  isLongHeld,
+  slotOf,
+  chooseOf,
+}
 use Rattle.select.specs.Answers.{chosenValue}
 use Rattle.base.specs.declared.types.Refusal.the-variants.{Duration, Index, NoPath}
 use Rattle.select.specs.declared.types.Chosen.{Chosen}
@@ -22,6 +43,7 @@ use Rattle.select.specs.declared.types.Chosen.the-variants as chosen
 use Rattle.select.specs.declared.types.Rival.{Rival}
 use Rattle.select.specs.declared.types.MaybeRival.{MaybeRival}
 use Rattle.select.specs.declared.types.MaybeRival.the-variants.{None, Some}
+use Rattle.select.proofs.OrderLaws.{tier-strict, score-strict, medium-strict, trip-strict}
 
 -- ---- what each of a list passes, the first of it passes
 
@@ -31,64 +53,45 @@ passes p None = true
 passes p (Some r) = p r
 
 module _ (p : Rival → Bool) where
-  every-head : (r : Rival) (l : List Rival) → every p (r ∷ l) ≡ true → p r ≡ true
-  every-head r l e = on-flag (p r) (λ q. q) (λ q. let y : true ≡ false = sym (rw q at e) in cc)
-
-  every-tail : (r : Rival) (l : List Rival) → every p (r ∷ l) ≡ true → every p l ≡ true
-  every-tail r l e = on-flag (p r) (λ q. rw q at e) (λ q. let y : true ≡ false = sym (rw q at e) in cc)
-
-  every-both : (r : Rival) (l : List Rival) → p r ≡ true → every p l ≡ true → every p (r ∷ l) ≡ true
-  every-both r l e f = rw e f
-
-  -- a test keeps some of them
-  pub every-keep : (q : Rival → Bool) (l : List Rival) → every p l ≡ true → every p (keep q l) ≡ true
-  every-keep q [] e = refl
-  every-keep q (r ∷ l) e =
-      let h : every p (keep q l) ≡ true = every-keep q l (every-tail r l e) in
-      on-flag (q r) (λ f. rw f (every-both r (keep q l) (every-head r l e) h)) (λ f. rw f h)
-
   every-only : (q : Rival → Bool) (l : List Rival) → every p l ≡ true → every p (onlyAny q l) ≡ true
-  every-only q l e = on-flag (noneIs q l) (λ f. rw f e) (λ f. rw f (every-keep q l e))
+  every-only q l e = on-flag (noneIs q l) (λ f. rw f e) (λ f. rw f (every-keep p q l e))
 
-  module _ (before : Rival → Rival → Bool) where
-    better-passes : (f : MaybeRival) (r : Rival) → passes p f ≡ true → p r ≡ true → passes p (betterOf before f r) ≡ true
-    better-passes None r e h = h
-    better-passes (Some a) r e h = on-flag (before r a) (λ q. rw q h) (λ q. rw q e)
-
-    fold-passes : (f : MaybeRival) (l : List Rival) → passes p f ≡ true → every p l ≡ true → passes p (foldl (betterOf before) f l) ≡ true
-    fold-passes f [] e h = e
-    fold-passes f (r ∷ l) e h = fold-passes (betterOf before f r) l (better-passes f r e (every-head r l h)) (every-tail r l h)
-
-    first-passes : (l : List Rival) → every p l ≡ true → passes p (firstBy before l) ≡ true
-    first-passes l h = fold-passes None l refl h
+  first-by-passes : {before : Rival → Rival → Bool} → Strict before → (l : List Rival) → every p l ≡ true
+      → passes p (firstBy before l) ≡ true
+  first-by-passes order l h =
+      first-cases order None Some (λ (f : MaybeRival). passes p f ≡ true) l (λ e. refl) (λ x f. first-passes p f h)
 
   else-passes : (f : MaybeRival) (r : Rival) → passes p f ≡ true → p r ≡ true → passes p (orElse f r) ≡ true
   else-passes (Some a) r e h = e
   else-passes None r e h = h
 
-  quickest-passes : (near : List Rival) (least : Rival) (f : MaybeRival) → every p near ≡ true → p least ≡ true → passes p f ≡ true → passes p (quickest near least f) ≡ true
+  quickest-passes : (near : List Rival) (least : Rival) (f : MaybeRival) → every p near ≡ true → p least ≡ true
+      → passes p f ≡ true → passes p (quickest near least f) ≡ true
   quickest-passes near least (Some a) h e k =
-      else-passes (firstBy byMedium (quickOf (a .medium) (preferredOf near))) a (first-passes byMedium (quickOf (a .medium) (preferredOf near)) (every-keep _ (preferredOf near) (every-keep _ near h))) k
+      else-passes (firstBy byMedium (quickOf (a .medium) (preferredOf near))) a
+      (first-by-passes medium-strict (quickOf (a .medium) (preferredOf near))
+      (every-keep p _ (preferredOf near) (every-keep p _ near h))) k
   quickest-passes near least None h e k =
-      else-passes (firstBy byMedium (quickOf (least .medium) near)) least (first-passes byMedium (quickOf (least .medium) near) (every-keep _ near h)) e
+      else-passes (firstBy byMedium (quickOf (least .medium) near)) least
+      (first-by-passes medium-strict (quickOf (least .medium) near) (every-keep p _ near h)) e
 
-  among-passes : (l : List Rival) (margin : Float) (f : MaybeRival) → every p l ≡ true → passes p f ≡ true → passes p (amongRanked l margin f) ≡ true
+  among-passes : (l : List Rival) (margin : Float) (f : MaybeRival) → every p l ≡ true → passes p f ≡ true
+      → passes p (amongRanked l margin f) ≡ true
   among-passes l margin (Some least) h e =
       let near : List Rival = nearOf (mul binary64 (least .score) margin) l in
-      let k : every p near ≡ true = every-keep _ (scoredOf l) (every-keep _ l h) in
-      quickest-passes near least (firstBy byScore (preferredOf near)) k e (first-passes byScore (preferredOf near) (every-keep _ near k))
-  among-passes l margin None h e = first-passes byTrip l h
+      let k : every p near ≡ true = every-keep p _ (scoredOf l) (every-keep p _ l h) in
+      quickest-passes near least (firstBy byScore (preferredOf near)) k e
+      (first-by-passes score-strict (preferredOf near) (every-keep p _ near k))
+  among-passes l margin None h e = first-by-passes trip-strict l h
 
   -- what each ranked one passes, the picked one passes
-  pub picked-passes : (l : List Rival) (margin : Float) → every p (rankedOf l) ≡ true → passes p (pickedOf l margin) ≡ true
+  pub picked-passes : (l : List Rival) (margin : Float) → every p (rankedOf l) ≡ true
+      → passes p (pickedOf l margin) ≡ true
   unfolding pickedOf
-  picked-passes l margin h = among-passes (rankedOf l) margin (firstBy byScore (scoredOf (rankedOf l))) h (first-passes byScore (scoredOf (rankedOf l)) (every-keep _ (rankedOf l) h))
+  picked-passes l margin h = among-passes (rankedOf l) margin (firstBy byScore (scoredOf (rankedOf l))) h
+      (first-by-passes score-strict (scoredOf (rankedOf l)) (every-keep p _ (rankedOf l) h))
 
 -- ---- what the ranked pass
-
-keep-passes : (q : Rival → Bool) (l : List Rival) → every q (keep q l) ≡ true
-keep-passes q [] = refl
-keep-passes q (r ∷ l) = on-flag (q r) (λ f. rw f (every-both q r (keep q l) f (keep-passes q l))) (λ f. rw f (keep-passes q l))
 
 -- if any passes, all that are left do
 only-passes : (q : Rival → Bool) (l : List Rival) → noneIs q l ≡ false → every q (onlyAny q l) ≡ true
@@ -96,40 +99,28 @@ only-passes q l e = rw e (keep-passes q l)
 
 ranked-named : (p : Rival → Bool) (l : List Rival) → every p (namedOf l) ≡ true → every p (rankedOf l) ≡ true
 unfolding rankedOf
-ranked-named p l h = every-only p (λ (r : Rival). r .fits) (highOf (namedOf l)) (every-keep p (λ (r : Rival). eqb (r .tier) (highestOf (namedOf l))) (namedOf l) h)
+ranked-named p l h = every-only p (λ (r : Rival). r .fits) (highOf (namedOf l))
+    (every-keep p (unbeaten byTier (namedOf l)) (namedOf l) h)
 
 ranked-held : (l : List Rival) → every (λ r. r .held) (rankedOf l) ≡ true
 ranked-held l =
-    ranked-named (λ (r : Rival). r .held) l (every-only (λ (r : Rival). r .held) (λ (r : Rival). r .pinned) (rivalsOf l) (keep-passes (λ (r : Rival). r .held) l))
+    ranked-named (λ (r : Rival). r .held) l (every-only (λ (r : Rival). r .held) (λ (r : Rival). r .pinned) (rivalsOf l)
+    (keep-passes (λ (r : Rival). r .held) l))
 
-ranked-pinned : (l : List Rival) → noneIs (λ r. r .pinned) (rivalsOf l) ≡ false → every (λ r. r .pinned) (rankedOf l) ≡ true
+ranked-pinned : (l : List Rival) → noneIs (λ r. r .pinned) (rivalsOf l) ≡ false
+    → every (λ r. r .pinned) (rankedOf l) ≡ true
 ranked-pinned l e = ranked-named (λ (r : Rival). r .pinned) l (only-passes (λ (r : Rival). r .pinned) (rivalsOf l) e)
 
-ranked-tier : (l : List Rival) → every (λ r. eqb (r .tier) (highestOf (namedOf l))) (rankedOf l) ≡ true
+ranked-tier : (l : List Rival) → every (unbeaten byTier (namedOf l)) (rankedOf l) ≡ true
 unfolding rankedOf
 ranked-tier l =
-    every-only (λ (r : Rival). eqb (r .tier) (highestOf (namedOf l))) (λ (r : Rival). r .fits) (highOf (namedOf l))
-    (keep-passes (λ (r : Rival). eqb (r .tier) (highestOf (namedOf l))) (namedOf l))
+    every-only (unbeaten byTier (namedOf l)) (λ (r : Rival). r .fits) (highOf (namedOf l))
+    (keep-passes (unbeaten byTier (namedOf l)) (namedOf l))
 
-ranked-fits : (l : List Rival) → noneIs (λ r. r .fits) (highOf (namedOf l)) ≡ false → every (λ r. r .fits) (rankedOf l) ≡ true
+ranked-fits : (l : List Rival) → noneIs (λ r. r .fits) (highOf (namedOf l)) ≡ false
+    → every (λ r. r .fits) (rankedOf l) ≡ true
 unfolding rankedOf
 ranked-fits l e = only-passes (λ (r : Rival). r .fits) (highOf (namedOf l)) e
-
--- ---- the highest tier is the highest
-
-max-up : (m : List ℕ) (z : ℕ) → z ≤ foldl max z m
-max-up [] z = omega arith
-max-up (x ∷ m) z = let h : max z x ≤ foldl max (max z x) m = max-up m (max z x) in omega arith
-
-under : (l : List Rival) (z t : ℕ) → foldl max z (map (λ r. r .tier) l) ≤ t → every (λ r. leb (r .tier) t) l ≡ true
-under [] z t h = refl
-under (r ∷ l) z t h =
-    let k : max z (r .tier) ≤ foldl max (max z (r .tier)) (map (λ (x : Rival). x .tier) l) = max-up (map (λ (x : Rival). x .tier) l) (max z (r .tier)) in
-    every-both (λ (x : Rival). leb (x .tier) t) r l (le-leb (r .tier) t (omega arith)) (under l (max z (r .tier)) t h)
-
--- no tier of a list is above its highest
-pub highest-tops : (l : List Rival) → every (λ r. leb (r .tier) (highestOf l)) l ≡ true
-highest-tops l = under l 0 (highestOf l) (omega arith)
 
 -- ---- the picked one
 
@@ -137,23 +128,24 @@ highest-tops l = under l 0 (highestOf l) (omega arith)
 pub record Taken (l : List Rival) (r : Rival) : Type 0 where
   pub held : r .held ≡ true
   pub pinned : noneIs (λ x. x .pinned) (rivalsOf l) ≡ false → r .pinned ≡ true
-  pub tier : r .tier ≡ highestOf (namedOf l)
+  pub tier : unbeaten byTier (namedOf l) r ≡ true
   pub fits : noneIs (λ x. x .fits) (highOf (namedOf l)) ≡ false → r .fits ≡ true
 
 pub picked-taken : (l : List Rival) (margin : Float) (r : Rival) → pickedOf l margin ≡ Some r → Taken l r
 picked-taken l margin r e =
     record {
-      held = sym (ap (passes (λ (x : Rival). x .held)) e) ∙ picked-passes (λ (x : Rival). x .held) l margin (ranked-held l);
+      held = sym (ap (passes (λ (x : Rival). x .held)) e) ∙ picked-passes (λ (x : Rival). x .held) l margin
+          (ranked-held l);
       pinned =
           λ h.
-          sym (ap (passes (λ (x : Rival). x .pinned)) e) ∙ picked-passes (λ (x : Rival). x .pinned) l margin (ranked-pinned l h);
-      tier =
-          eqb-true (r .tier) (highestOf (namedOf l))
-          (sym (ap (passes (λ (x : Rival). eqb (x .tier) (highestOf (namedOf l)))) e)
-          ∙ picked-passes (λ (x : Rival). eqb (x .tier) (highestOf (namedOf l))) l margin (ranked-tier l));
+          sym (ap (passes (λ (x : Rival). x .pinned)) e) ∙ picked-passes (λ (x : Rival). x .pinned) l margin
+          (ranked-pinned l h);
+      tier = sym (ap (passes (unbeaten byTier (namedOf l))) e) ∙ picked-passes (unbeaten byTier (namedOf l)) l margin
+          (ranked-tier l);
       fits =
           λ h.
-          sym (ap (passes (λ (x : Rival). x .fits)) e) ∙ picked-passes (λ (x : Rival). x .fits) l margin (ranked-fits l h);
+          sym (ap (passes (λ (x : Rival). x .fits)) e) ∙ picked-passes (λ (x : Rival). x .fits) l margin
+          (ranked-fits l h);
     }
 
 -- ---- one is picked exactly if the field is not empty
@@ -163,22 +155,15 @@ abbrev pub isThere : MaybeRival → Bool
 isThere None = false
 isThere (Some r) = true
 
-abbrev pub anyIn : List Rival → Bool
-anyIn [] = false
-anyIn (r ∷ l) = true
-
-module _ (before : Rival → Rival → Bool) where
-  better-there : (f : MaybeRival) (r : Rival) → isThere (betterOf before f r) ≡ true
-  better-there None r = refl
-  better-there (Some a) r = on-flag (before r a) (λ q. rw q refl) (λ q. rw q refl)
-
-  fold-there : (f : MaybeRival) (l : List Rival) → isThere f ≡ true → isThere (foldl (betterOf before) f l) ≡ true
-  fold-there f [] e = e
-  fold-there f (r ∷ l) e = fold-there (betterOf before f r) l (better-there f r)
-
-  first-there : (l : List Rival) → isThere (firstBy before l) ≡ anyIn l
-  first-there [] = refl
-  first-there (r ∷ l) = fold-there (Some r) l refl
+first-there : {before : Rival → Rival → Bool} → Strict before → (l : List Rival) → isThere (firstBy before l) ≡ anyIn l
+first-there order l =
+    first-cases order None Some (λ (f : MaybeRival). isThere f ≡ anyIn l) l
+    (λ e. sym (ap anyIn e))
+    (λ x f. sym (ap anyIn (f .there) ∙ some-in (f .front) x (f .back)))
+  where
+    some-in : (a : List Rival) (x : Rival) (b : List Rival) → anyIn (a ++ (x ∷ b)) ≡ true
+    some-in [] x b = refl
+    some-in (y ∷ a) x b = refl
 
 else-there : (f : MaybeRival) (r : Rival) → isThere (orElse f r) ≡ true
 else-there (Some a) r = refl
@@ -188,21 +173,13 @@ quickest-there : (near : List Rival) (least : Rival) (f : MaybeRival) → isTher
 quickest-there near least (Some a) = else-there (firstBy byMedium (quickOf (a .medium) (preferredOf near))) a
 quickest-there near least None = else-there (firstBy byMedium (quickOf (least .medium) near)) least
 
--- some are kept exactly if not none passes
-keep-any : (q : Rival → Bool) (l : List Rival) → anyIn (keep q l) ≡ not (noneIs q l)
-keep-any q [] = refl
-keep-any q (r ∷ l) = on-flag (q r) (λ f. simp f) (λ f. simp (f, keep-any q l))
-
-keep-from : (q : Rival → Bool) (l : List Rival) → anyIn (keep q l) ≡ true → anyIn l ≡ true
-keep-from q [] e = e
-keep-from q (r ∷ l) e = refl
-
-among-there : (l : List Rival) (margin : Float) (f : MaybeRival) → firstBy byScore (scoredOf l) ≡ f → isThere (amongRanked l margin f) ≡ anyIn l
-among-there l margin None e = first-there byTrip l
+among-there : (l : List Rival) (margin : Float) (f : MaybeRival) → firstBy byScore (scoredOf l) ≡ f
+    → isThere (amongRanked l margin f) ≡ anyIn l
+among-there l margin None e = first-there trip-strict l
 among-there l margin (Some least) e =
     let near : List Rival = nearOf (mul binary64 (least .score) margin) l in
     quickest-there near least (firstBy byScore (preferredOf near))
-    ∙ sym (keep-from (λ (r : Rival). r .scored) l (sym (first-there byScore (scoredOf l)) ∙ ap isThere e))
+    ∙ sym (keep-from (λ (r : Rival). r .scored) l (sym (first-there score-strict (scoredOf l)) ∙ ap isThere e))
 
 only-any : (q : Rival → Bool) (l : List Rival) → anyIn (onlyAny q l) ≡ anyIn l
 only-any q l =
@@ -212,27 +189,13 @@ only-any q l =
     let h : anyIn (keep q l) ≡ true = keep-any q l ∙ ap not e in
     rw e (h ∙ sym (keep-from q l h)))
 
--- the highest tier is some rival's, or the start's
-reached : {C : Type 0} (l : List Rival) (z t : ℕ) → foldl max z (map (λ r. r .tier) l) ≡ t → (z ≡ t → C) → (noneIs (λ r. eqb (r .tier) t) l ≡ false → C) → C
-reached [] z t e f g = f e
-reached (r ∷ l) z t e f g =
-    on-order z (r .tier)
-    (λ h. reached l (max z (r .tier)) t e (λ q. g (let k : eqb (r .tier) t ≡ true = eq-eqb (r .tier) t (omega arith) in simp k)) (λ q. g (tail q)))
-    (λ h. reached l (max z (r .tier)) t e (λ q. f (omega arith)) (λ q. g (tail q)))
-  where
-    tail : noneIs (λ x. eqb (x .tier) t) l ≡ false → noneIs (λ x. eqb (x .tier) t) (r ∷ l) ≡ false
-    tail q = on-flag (eqb (r .tier) t) (λ k. simp k) (λ k. simp (k, q))
-
+-- the highest tier is some rival's
 high-any : (l : List Rival) → anyIn (highOf l) ≡ anyIn l
-high-any [] = refl
-high-any (r ∷ l) =
-    let t : ℕ = highestOf (r ∷ l) in
-    let n : noneIs (λ (x : Rival). eqb (x .tier) t) (r ∷ l) ≡ false =
-    reached l (max 0 (r .tier)) t refl
-    (λ q. let k : eqb (r .tier) t ≡ true = eq-eqb (r .tier) t (omega arith) in simp k)
-    (λ q. on-flag (eqb (r .tier) t) (λ k. simp k) (λ k. simp (k, q)))
-    in
-    keep-any (λ (x : Rival). eqb (x .tier) t) (r ∷ l) ∙ ap not n
+high-any l = head-there (highOf l) ∙ first-there tier-strict l
+  where
+    head-there : (m : List Rival) → anyIn m ≡ isThere (headOf None Some m)
+    head-there [] = refl
+    head-there (r ∷ m) = refl
 
 ranked-any : (l : List Rival) → anyIn (rankedOf l) ≡ not (noneIs (λ r. r .held) l)
 unfolding rankedOf
@@ -278,13 +241,16 @@ marked-all q l e =
     (λ f. simp f))
 
 ranked-all : (p : Rival → Bool) (l : List Rival) → every p l ≡ true → every p (rankedOf l) ≡ true
-ranked-all p l h = ranked-named p l (every-only p (λ (r : Rival). r .pinned) (rivalsOf l) (every-keep p (λ (r : Rival). r .held) l h))
+ranked-all p l h = ranked-named p l (every-only p (λ (r : Rival). r .pinned) (rivalsOf l)
+    (every-keep p (λ (r : Rival). r .held) l h))
 
 -- what the picked one passes, the rival at the place of its index passes
-at-index : (q : Rival → Bool) (l : List Rival) (margin : Float) (r : Rival) → placed 0 l ≡ true → pickedOf l margin ≡ Some r → q r ≡ true → q (getD l (r .index) noRival) ≡ true
+at-index : (q : Rival → Bool) (l : List Rival) (margin : Float) (r : Rival) → placed 0 l ≡ true
+    → pickedOf l margin ≡ Some r → q r ≡ true → q (getD l (r .index) noRival) ≡ true
 at-index q l margin r e p h =
     let m : marked q l r ≡ true =
-    sym (ap (passes (marked q l)) p) ∙ picked-passes (marked q l) l margin (ranked-all (marked q l) l (marked-all q l e))
+    sym (ap (passes (marked q l)) p) ∙ picked-passes (marked q l) l margin
+    (ranked-all (marked q l) l (marked-all q l e))
     in
     let k : r .held ≡ true = picked-taken l margin r p .held in
     simp (k, h) at m
@@ -294,11 +260,13 @@ abbrev isSlot : Chosen → Bool
 isSlot (chosen.Slot n) = true
 isSlot (chosen.Refused why) = false
 
-slot-is : {C : Type 0} (f : MaybeRival) (n : ℕ) → slotOf f ≡ chosen.Slot n → ((r : Rival) → f ≡ Some r → r .index ≡ n → C) → C
+slot-is : {C : Type 0} (f : MaybeRival) (n : ℕ) → slotOf f ≡ chosen.Slot n
+    → ((r : Rival) → f ≡ Some r → r .index ≡ n → C) → C
 slot-is (Some r) n e g = g r refl (ap chosenValue e)
 slot-is None n e g = never {t = false} (ap isSlot e) refl
 
-accepted : {C : Type 0} (l : List Rival) (margin : Float) (n : ℕ) → chooseOf l margin ≡ chosen.Slot n → (placed 0 l ≡ true → slotOf (pickedOf l margin) ≡ chosen.Slot n → C) → C
+accepted : {C : Type 0} (l : List Rival) (margin : Float) (n : ℕ) → chooseOf l margin ≡ chosen.Slot n
+    → (placed 0 l ≡ true → slotOf (pickedOf l margin) ≡ chosen.Slot n → C) → C
 unfolding chooseOf
 accepted l margin n e g =
     let rest : Chosen = cond (not (placed 0 l)) (chosen.Refused Index) (slotOf (pickedOf l margin)) in
@@ -308,10 +276,14 @@ accepted l margin n e g =
     let d : rest ≡ chosen.Slot n = sym (ap (λ (b : Bool). cond b (chosen.Refused Duration) rest) f) ∙ e in
     on-flag (placed 0 l)
     (λ p. g p (sym (ap (λ (b : Bool). cond (not b) (chosen.Refused Index) (slotOf (pickedOf l margin))) p) ∙ d))
-    (λ p. never {t = false} (ap isSlot (sym (ap (λ (b : Bool). cond (not b) (chosen.Refused Index) (slotOf (pickedOf l margin))) p) ∙ d)) refl))
+    (λ p. never {t = false}
+    (ap isSlot (sym (ap (λ (b : Bool). cond (not b) (chosen.Refused Index) (slotOf (pickedOf l margin))) p) ∙ d))
+    refl))
 
--- at the slot that `choose` answers stands a held rival, pinned if any is, of the highest tier of those, fitting if any of these fits
-pub chosen-taken : (l : List Rival) (margin : Float) (n : ℕ) → chooseOf l margin ≡ chosen.Slot n → Taken l (getD l n noRival)
+-- at the slot that `choose` answers stands a held rival, pinned if any is, of the highest tier of those, fitting if any
+-- of these fits
+pub chosen-taken : (l : List Rival) (margin : Float) (n : ℕ) → chooseOf l margin ≡ chosen.Slot n
+    → Taken l (getD l n noRival)
 chosen-taken l margin n e =
     accepted l margin n e
     (λ p s.
@@ -322,9 +294,7 @@ chosen-taken l margin n e =
     (record {
       held = at-index (λ (x : Rival). x .held) l margin r p f (t .held);
       pinned = λ h. at-index (λ (x : Rival). x .pinned) l margin r p f (t .pinned h);
-      tier =
-          eqb-true (getD l (r .index) noRival .tier) (highestOf (namedOf l))
-          (at-index (λ (x : Rival). eqb (x .tier) (highestOf (namedOf l))) l margin r p f (eq-eqb (r .tier) (highestOf (namedOf l)) (t .tier)));
+      tier = at-index (unbeaten byTier (namedOf l)) l margin r p f (t .tier);
       fits = λ h. at-index (λ (x : Rival). x .fits) l margin r p f (t .fits h);
     })))
 
@@ -347,10 +317,12 @@ nothing None e = refl
 nothing (Some r) e = never {t = true} refl e
 
 -- `choose` answers 11
-pub empty-none : (l : List Rival) (margin : Float) → noneIs (λ r. r .held) l ≡ true → chooseOf l margin ≡ chosen.Refused NoPath
+pub empty-none : (l : List Rival) (margin : Float) → noneIs (λ r. r .held) l ≡ true
+    → chooseOf l margin ≡ chosen.Refused NoPath
 unfolding chooseOf
 empty-none l margin e =
-    ap (λ (m : List Rival). cond (not (noneIs isLong m)) (chosen.Refused Duration) (cond (not (placed 0 l)) (chosen.Refused Index) (slotOf (pickedOf l margin))))
+    ap (λ (m : List Rival). cond (not (noneIs isLong m)) (chosen.Refused Duration)
+    (cond (not (placed 0 l)) (chosen.Refused Index) (slotOf (pickedOf l margin))))
     (empty-rivals l e)
     ∙ ap (λ (b : Bool). cond (not b) (chosen.Refused Index) (slotOf (pickedOf l margin))) (empty-placed l 0 e)
     ∙ nothing (pickedOf l margin) (picked-there l margin ∙ ap not e)

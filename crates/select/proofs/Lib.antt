@@ -1,5 +1,8 @@
 -- What the proofs of the functions share, and the laws of the choice.
 mod PlaceLaws
+mod ScanLaws
+pub mod OrderLaws
 mod RankLaws
 mod PickLaws
 pub mod ChoiceLaws
+pub mod PickedLaws

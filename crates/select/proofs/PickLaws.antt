@@ -1,44 +1,67 @@
 -- What `picked`, `choose` and `best` ask: their branches are the definition's.
 -- Assumes nothing.
-use mathlib.Core.Path.{_≡_, refl, ap, sym, _∙_}
+use mathlib.Core.Path.{_≡_, ap, sym, _∙_}
 use mathlib.Core.Bool.{Bool, true, false, not, cond}
 use mathlib.Core.List.{List}
 use lib.Ieee.{Float}
 use Rattle.base.specs.Seq.{every}
-use Rattle.base.specs.declared.types.Refusal.the-variants.{Duration, Index, NoPath}
-use Rattle.select.specs.Rivals.{placed, byScore, byMedium, byTrip}
-use Rattle.select.specs.Choice.{rankedOf, limitOf, firstBy, orElse, scoredOf, nearOf, preferredOf, quickOf, quickest, amongScored, amongRanked, pickedOf, isLongHeld, slotOf, chooseOf, bestScore, bestOf}
-use Rattle.select.specs.Scans.{lacksOf, gateOf, scanOf}
+use Rattle.base.specs.declared.types.Refusal.the-variants.{Duration, Index}
+use Rattle.select.specs.Rivals.{placed, byScore}
+use Rattle.select.specs.Choice.{
+  rankedOf,
+  limitOf,
+  firstBy,
+  orElse,
+  scoredOf,
+  nearOf,
+  quickest,
+  amongRanked,
+  pickedOf,
+  isLongHeld,
+  slotOf,
+  chooseOf,
+  bestScore,
+  bestOf,
+}
+use Rattle.select.specs.Passes.{lacksOf, gateOf, firstTaken}
 use Rattle.select.specs.declared.types.Rival.{Rival}
-use Rattle.select.specs.declared.types.Gate.{Gate}
+use Rattle.select.specs.declared.passes.Gate.{Gate}
 use Rattle.select.specs.declared.types.MaybeRival.{MaybeRival}
 use Rattle.select.specs.declared.types.MaybeRival.the-variants.{None, Some}
-use Rattle.select.specs.declared.types.Test.the-variants as test
-use Rattle.select.specs.declared.types.Want.the-variants.{Scored, Preferred, Quicker, Timed}
-use Rattle.select.specs.declared.types.Chosen.{Chosen}
+use Rattle.select.specs.declared.passes.Test.the-variants as test
+use Rattle.select.specs.declared.passes.Want.the-variants.{Scored, Preferred, Quicker, Timed}
 use Rattle.select.specs.declared.types.Chosen.the-variants as chosen
-use Rattle.select.specs.declared.types.BestAnswer.{BestAnswer}
 use Rattle.select.specs.declared.types.BestAnswer.the-variants as best
-use Rattle.select.proofs.RankLaws.{long-is, scan-scored, scan-preferred, scan-quick, scan-preferred-quick, scan-timed}
+use Rattle.select.proofs.RankLaws.{
+  long-is,
+  scan-scored,
+  scan-preferred,
+  scan-quick,
+  scan-preferred-quick,
+  scan-timed,
+}
 
-module _ (l : List Rival) {g : Gate} {first : MaybeRival} (e : g ≡ gateOf l) (f : first ≡ scanOf (Scored g) l) where
+module _ (l : List Rival) {g : Gate} {first : MaybeRival} (e : g ≡ gateOf l) (f : first ≡ firstTaken (Scored g) l) where
   -- what the scan for the least score found
   pub first-is : firstBy byScore (scoredOf (rankedOf l)) ≡ first
-  first-is = scan-scored l ∙ ap (λ (x : Gate). scanOf (Scored x) l) (sym e) ∙ sym f
+  first-is = scan-scored l ∙ ap (λ (x : Gate). firstTaken (Scored x) l) (sym e) ∙ sym f
 
   module _ (margin : Float) where
-    module _ {least : Rival} {second : MaybeRival} {x : Float} (h : first ≡ Some least) (y : x ≡ limitOf least margin) (s : second ≡ scanOf (Preferred g x) l) where
+    module _ {least : Rival} {second : MaybeRival} {x : Float} (h : first ≡ Some least) (y : x ≡ limitOf least margin)
+        (s : second ≡ firstTaken (Preferred g x) l) where
       -- what the scan for a preferred one found
       second-is : pickedOf l margin ≡ quickest (nearOf (limitOf least margin) (rankedOf l)) least second
       unfolding pickedOf
       second-is =
           ap (amongRanked (rankedOf l) margin) (first-is ∙ h)
           ∙ ap (quickest (nearOf (limitOf least margin) (rankedOf l)) least)
-          (scan-preferred (limitOf least margin) l ∙ ap (λ (x : Gate). scanOf (Preferred x (limitOf least margin)) l) (sym e) ∙ ap (λ (z : Float). scanOf (Preferred g z) l) (sym y) ∙ sym s)
+          (scan-preferred (limitOf least margin) l ∙ ap (λ (x : Gate). firstTaken (Preferred x (limitOf least margin)) l)
+          (sym e) ∙ ap (λ (z : Float). firstTaken (Preferred g z) l) (sym y) ∙ sym s)
 
       -- one was picked
       pub picked-preferred : {p : Rival} {third k : MaybeRival} → second ≡ Some p
-          → third ≡ scanOf (Quicker g (limitOf least margin) true (p .medium)) l → k ≡ orElse third p → k ≡ pickedOf l margin
+          → third ≡ firstTaken (Quicker g (limitOf least margin) true (p .medium)) l → k ≡ orElse third p
+          → k ≡ pickedOf l margin
       picked-preferred {p} {third} {k} i t o =
           o
           ∙ sym
@@ -46,12 +69,13 @@ module _ (l : List Rival) {g : Gate} {first : MaybeRival} (e : g ≡ gateOf l) (
           ∙ ap (quickest (nearOf (limitOf least margin) (rankedOf l)) least) i
           ∙ ap (λ (x : MaybeRival). orElse x p)
           (scan-preferred-quick (limitOf least margin) (p .medium) l
-          ∙ ap (λ (x : Gate). scanOf (Quicker x (limitOf least margin) true (p .medium)) l) (sym e)
+          ∙ ap (λ (x : Gate). firstTaken (Quicker x (limitOf least margin) true (p .medium)) l) (sym e)
           ∙ sym t))
 
       -- none was
       pub picked-plain : {third k : MaybeRival} → second ≡ None
-          → third ≡ scanOf (Quicker g (limitOf least margin) false (least .medium)) l → k ≡ orElse third least → k ≡ pickedOf l margin
+          → third ≡ firstTaken (Quicker g (limitOf least margin) false (least .medium)) l → k ≡ orElse third least
+          → k ≡ pickedOf l margin
       picked-plain {third} {k} i t o =
           o
           ∙ sym
@@ -59,15 +83,15 @@ module _ (l : List Rival) {g : Gate} {first : MaybeRival} (e : g ≡ gateOf l) (
           ∙ ap (quickest (nearOf (limitOf least margin) (rankedOf l)) least) i
           ∙ ap (λ (x : MaybeRival). orElse x least)
           (scan-quick (limitOf least margin) (least .medium) l
-          ∙ ap (λ (x : Gate). scanOf (Quicker x (limitOf least margin) false (least .medium)) l) (sym e)
+          ∙ ap (λ (x : Gate). firstTaken (Quicker x (limitOf least margin) false (least .medium)) l) (sym e)
           ∙ sym t))
 
     -- none has a score
-    pub picked-timed : {k : MaybeRival} → first ≡ None → k ≡ scanOf (Timed g) l → k ≡ pickedOf l margin
+    pub picked-timed : {k : MaybeRival} → first ≡ None → k ≡ firstTaken (Timed g) l → k ≡ pickedOf l margin
     unfolding pickedOf
     picked-timed {k} h t =
         t
-        ∙ ap (λ (x : Gate). scanOf (Timed x) l) e
+        ∙ ap (λ (x : Gate). firstTaken (Timed x) l) e
         ∙ sym (ap (amongRanked (rankedOf l) margin) (first-is ∙ h) ∙ scan-timed l)
 
 -- ---- the refusals and the answers
@@ -83,39 +107,48 @@ module _ (l : List Rival) where
     pub choose-long : every (lacksOf test.Long) l ≡ false → chosen.Refused Duration ≡ chooseOf l margin
     unfolding chooseOf
     choose-long e =
-        sym (ap (λ (b : Bool). cond b (chosen.Refused Duration) (cond (not (placed 0 l)) (chosen.Refused Index) (slotOf (pickedOf l margin)))) (long-not e))
+        sym (ap (λ (b : Bool). cond b (chosen.Refused Duration)
+        (cond (not (placed 0 l)) (chosen.Refused Index) (slotOf (pickedOf l margin)))) (long-not e))
 
-    pub choose-index : every (lacksOf test.Long) l ≡ true → placed 0 l ≡ false → chosen.Refused Index ≡ chooseOf l margin
+    pub choose-index : every (lacksOf test.Long) l ≡ true → placed 0 l ≡ false
+        → chosen.Refused Index ≡ chooseOf l margin
     unfolding chooseOf
     choose-index e p =
         sym
-        (ap (λ (b : Bool). cond b (chosen.Refused Duration) (cond (not (placed 0 l)) (chosen.Refused Index) (slotOf (pickedOf l margin)))) (long-none e)
+        (ap (λ (b : Bool). cond b (chosen.Refused Duration) (cond (not (placed 0 l)) (chosen.Refused Index)
+        (slotOf (pickedOf l margin)))) (long-none e)
         ∙ ap (λ (b : Bool). cond (not b) (chosen.Refused Index) (slotOf (pickedOf l margin))) p)
 
-    pub choose-slot : {k x : MaybeRival} → every (lacksOf test.Long) l ≡ true → placed 0 l ≡ true → k ≡ pickedOf l margin → k ≡ x → slotOf x ≡ chooseOf l margin
+    pub choose-slot : {k x : MaybeRival} → every (lacksOf test.Long) l ≡ true → placed 0 l ≡ true
+        → k ≡ pickedOf l margin → k ≡ x → slotOf x ≡ chooseOf l margin
     unfolding chooseOf
     choose-slot {k} {x} e p f h =
         sym
-        (ap (λ (b : Bool). cond b (chosen.Refused Duration) (cond (not (placed 0 l)) (chosen.Refused Index) (slotOf (pickedOf l margin)))) (long-none e)
+        (ap (λ (b : Bool). cond b (chosen.Refused Duration) (cond (not (placed 0 l)) (chosen.Refused Index)
+        (slotOf (pickedOf l margin)))) (long-none e)
         ∙ ap (λ (b : Bool). cond (not b) (chosen.Refused Index) (slotOf (pickedOf l margin))) p
         ∙ ap slotOf (sym f ∙ h))
 
   pub best-long : every (lacksOf test.Long) l ≡ false → best.Refused Duration ≡ bestOf l
   unfolding bestOf
   best-long e =
-      sym (ap (λ (b : Bool). cond b (best.Refused Duration) (cond (not (placed 0 l)) (best.Refused Index) (bestScore (firstBy byScore (scoredOf (rankedOf l)))))) (long-not e))
+      sym (ap (λ (b : Bool). cond b (best.Refused Duration) (cond (not (placed 0 l)) (best.Refused Index)
+      (bestScore (firstBy byScore (scoredOf (rankedOf l)))))) (long-not e))
 
   pub best-index : every (lacksOf test.Long) l ≡ true → placed 0 l ≡ false → best.Refused Index ≡ bestOf l
   unfolding bestOf
   best-index e p =
       sym
-      (ap (λ (b : Bool). cond b (best.Refused Duration) (cond (not (placed 0 l)) (best.Refused Index) (bestScore (firstBy byScore (scoredOf (rankedOf l)))))) (long-none e)
+      (ap (λ (b : Bool). cond b (best.Refused Duration) (cond (not (placed 0 l)) (best.Refused Index)
+      (bestScore (firstBy byScore (scoredOf (rankedOf l)))))) (long-none e)
       ∙ ap (λ (b : Bool). cond (not b) (best.Refused Index) (bestScore (firstBy byScore (scoredOf (rankedOf l))))) p)
 
-  pub best-score : {g : Gate} {k x : MaybeRival} → every (lacksOf test.Long) l ≡ true → placed 0 l ≡ true → g ≡ gateOf l → k ≡ scanOf (Scored g) l → k ≡ x → bestScore x ≡ bestOf l
+  pub best-score : {g : Gate} {k x : MaybeRival} → every (lacksOf test.Long) l ≡ true → placed 0 l ≡ true → g ≡ gateOf l
+      → k ≡ firstTaken (Scored g) l → k ≡ x → bestScore x ≡ bestOf l
   unfolding bestOf
   best-score {g} {k} {x} e p i f h =
       sym
-      (ap (λ (b : Bool). cond b (best.Refused Duration) (cond (not (placed 0 l)) (best.Refused Index) (bestScore (firstBy byScore (scoredOf (rankedOf l)))))) (long-none e)
+      (ap (λ (b : Bool). cond b (best.Refused Duration) (cond (not (placed 0 l)) (best.Refused Index)
+      (bestScore (firstBy byScore (scoredOf (rankedOf l)))))) (long-none e)
       ∙ ap (λ (b : Bool). cond (not b) (best.Refused Index) (bestScore (firstBy byScore (scoredOf (rankedOf l))))) p
       ∙ ap bestScore (first-is l i f ∙ h))

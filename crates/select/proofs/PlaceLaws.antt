@@ -1,9 +1,9 @@
 -- What the pass over a field that tries each rival's index asks.
 -- Assumes nothing.
-use Prim.Native.Nat.{ℕ, suc, _+_, _<_, _≤_}
+use Prim.Native.Nat.{ℕ, _+_, _<_, _≤_}
 use mathlib.Core.Path.{_≡_, refl, sym}
-use mathlib.Core.Bool.{Bool, true, false}
-use mathlib.Core.List.{List, [], _∷_, map}
+use mathlib.Core.Bool.{true, false}
+use mathlib.Core.List.{List}
 use native.Mathlib.Numerals.{add-one}
 use native.Mathlib.Omega.{arith}
 use lib.ListN.{length, getD, drop, drop-of-length-le}
@@ -35,8 +35,3 @@ module _ {l : List Rival} {n : ℕ} where
   placing-end {i} s h =
       let k : length l ≤ i = omega arith in
       sym (rw drop-of-length-le at (s .rest))
-
--- a map that changes nothing
-pub map-same : {A : Type 0} (l : List A) → map (λ (x : A). x) l ≡ l
-map-same [] = refl
-map-same (x ∷ l) = rw (map-same l)

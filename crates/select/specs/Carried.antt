@@ -1,10 +1,11 @@
--- The largest frame that a path carries (the Rust's `carried` and `heeded`, whose bodies are the definition), with the refusal 5.
+-- The largest frame that a path carries (the Rust's `carried` and `heeded`, whose bodies are the definition), with the
+-- refusal 5.
 use Prim.Native.Nat.{ℕ, _+_, min}
 use mathlib.Core.Bool.{Bool, not, cond}
 use Rattle.base.specs.Limits.{isOverlong}
 use Rattle.base.specs.declared.types.Refusal.the-variants.{Length}
-use Rattle.select.specs.declared.types.MaybeSize.{MaybeSize}
-use Rattle.select.specs.declared.types.MaybeSize.the-variants.{None, Some}
+use Rattle.base.specs.declared.types.MaybeLen.{MaybeLen}
+use Rattle.base.specs.declared.types.MaybeLen.the-variants.{None, Some}
 use Rattle.select.specs.declared.types.SizeAnswer.{SizeAnswer}
 use Rattle.select.specs.declared.types.SizeAnswer.the-variants as answers
 
@@ -20,11 +21,12 @@ heededOf oriented = not oriented
 abbrev pub frameOf : ℕ → ℕ → Bool → ℕ
 frameOf link len oriented = cond (heededOf oriented) (min link (len + frameOverhead)) link
 
--- 5 for a proven size above 65,535
-abbrev pub boundedBy : ℕ → MaybeSize → Bool → SizeAnswer
-boundedBy link None oriented = answers.Size link
-boundedBy link (Some len) oriented = cond (isOverlong len) (answers.Refused Length) (answers.Size (frameOf link len oriented))
+-- by what the path has proven
+abbrev pub boundedBy : ℕ → MaybeLen → Bool → ℕ
+boundedBy link None oriented = link
+boundedBy link (Some len) oriented = frameOf link len oriented
 
 -- `carried`: 5 for a link's frame above 65,535
-unfoldable pub carriedFrame : ℕ → MaybeSize → Bool → SizeAnswer
-carriedFrame link proven oriented = cond (isOverlong link) (answers.Refused Length) (boundedBy link proven oriented)
+unfoldable pub carriedFrame : ℕ → MaybeLen → Bool → SizeAnswer
+carriedFrame link proven oriented = cond (isOverlong link) (answers.Refused Length)
+    (answers.Size (boundedBy link proven oriented))

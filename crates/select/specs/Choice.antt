@@ -1,16 +1,15 @@
--- The choice (document 01, "Choice"): "If any is pinned, only pinned; then the highest tier (0 takes part); then the fitting, if any.
--- If one has a score: least score, then index, by totalOrder; the first preferred one with score <= best × margin replaces it; then a
--- quicker medium so near (preferred ones only, if one was picked), by medium, score, index. With no score: known RTT first, then RTT,
--- index."
-use Prim.Native.Nat.{ℕ, max}
+-- The choice (document 01, "Choice"): "If any is pinned, only pinned; then the highest tier (0 takes part); then the
+-- fitting, if any. If one has a score: least score, then index, by totalOrder; the first preferred one with score <=
+-- best × margin replaces it; then a quicker medium so near (preferred ones only, if one was picked), by medium, score,
+-- index. With no score: known RTT first, then RTT, index."
 use mathlib.Core.Bool.{Bool, not, cond}
-use mathlib.Core.List.{List, map, foldl}
-use lib.Dec.{eqb}
+use mathlib.Core.List.{List}
 use lib.Ieee.{Float, binary64, mul, le}
 use Rattle.base.specs.Seq.{every, keep}
+use Rattle.base.specs.First.{unbeaten, firstOf}
 use Rattle.base.specs.declared.types.Refusal.the-variants.{Duration, Index, NoPath}
 use Rattle.select.specs.Media.{quickerOf}
-use Rattle.select.specs.Rivals.{isLong, placed, byScore, byMedium, byTrip}
+use Rattle.select.specs.Rivals.{isLong, placed, byTier, byScore, byMedium, byTrip}
 use Rattle.select.specs.declared.types.Medium.{Medium}
 use Rattle.select.specs.declared.types.Rival.{Rival}
 use Rattle.select.specs.declared.types.MaybeRival.{MaybeRival}
@@ -38,13 +37,9 @@ rivalsOf field = keep (λ r. r .held) field
 abbrev pub namedOf : List Rival → List Rival
 namedOf field = onlyAny (λ r. r .pinned) (rivalsOf field)
 
--- the highest tier of a list
-abbrev pub highestOf : List Rival → ℕ
-highestOf l = foldl max 0 (map (λ r. r .tier) l)
-
--- then the highest tier (0 takes part)
+-- then the highest tier (0 takes part): those whose tier none exceeds
 abbrev pub highOf : List Rival → List Rival
-highOf l = keep (λ r. eqb (r .tier) (highestOf l)) l
+highOf l = keep (unbeaten byTier l) l
 
 -- then the fitting, if any
 unfoldable pub rankedOf : List Rival → List Rival
@@ -52,14 +47,9 @@ rankedOf field = onlyAny (λ r. r .fits) (highOf (namedOf field))
 
 -- ---- the first of a list in an order
 
--- the better of what there is and one more
-abbrev pub betterOf : (Rival → Rival → Bool) → MaybeRival → Rival → MaybeRival
-betterOf before None r = Some r
-betterOf before (Some a) r = cond (before r a) (Some r) (Some a)
-
--- the one that no later one comes before and that comes before each earlier one
+-- the first that none comes before
 abbrev pub firstBy : (Rival → Rival → Bool) → List Rival → MaybeRival
-firstBy before l = foldl (betterOf before) None l
+firstBy before l = firstOf before None Some l
 
 -- what there is, else r
 abbrev pub orElse : MaybeRival → Rival → MaybeRival

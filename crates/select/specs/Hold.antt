@@ -1,5 +1,5 @@
--- What holds a change of the active path (the Rust's `held` and `waits`, whose bodies are the definition), and the hold on a link's
--- cost (document 01, "Files and tail": "`Hold` holds before at + dwell or while a report of 2 is owed").
+-- What holds a change of the active path (the Rust's `held` and `waits`, whose bodies are the definition), and the hold
+-- on a link's cost (document 01, "Files and tail": "`Hold` holds before at + dwell or while a report of 2 is owed").
 use Prim.Native.Nat.{ℕ, _-_}
 use mathlib.Core.Bool.{Bool, not, cond, _&&_, _||_}
 use lib.Dec.{ltb}
@@ -53,7 +53,8 @@ heldOf to from margin =
     (answers.Refused Duration)
     (heldIf (staysOf to from margin))
 
--- `waits`: a change for a quicker medium waits while the score of `to` is above margin times that of `from` over the horizon
+-- `waits`: a change for a quicker medium waits while the score of `to` is above margin times that of `from` over the
+-- horizon
 unfoldable pub waitsOf : Rival → Rival → Float → HeldAnswer
 waitsOf to from margin =
     cond (eitherLong to from)

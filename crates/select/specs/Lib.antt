@@ -2,7 +2,7 @@
 pub mod Media
 pub mod Rivals
 pub mod Choice
-pub mod Scans
 pub mod Hold
 pub mod Carried
 pub mod Answers
+pub mod Passes

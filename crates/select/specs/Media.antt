@@ -1,8 +1,8 @@
--- Roles and media (document 01, "Choice": "Wired, wireless, BLE is the speed order; unknown has none"; the tiers are the Rust's
--- `tier`).
-use Prim.Native.Nat.{ℕ}
-use mathlib.Core.Bool.{Bool, _&&_}
-use lib.Dec.{ltb}
+-- Roles and media (document 01, "Choice": "Wired, wireless, BLE is the speed order; unknown has none"; the tiers are
+-- the Rust's `tier`, the numbers the order in which the Rust declares them).
+use Prim.Native.Nat.{ℕ, _%_}
+use mathlib.Core.Bool.{Bool, cond, _&&_}
+use lib.Dec.{eqb, ltb}
 use Rattle.select.specs.declared.types.Role.{Role}
 use Rattle.select.specs.declared.types.Role.the-variants as role
 use Rattle.select.specs.declared.types.Medium.{Medium}
@@ -25,3 +25,13 @@ speedOf medium.Unknown = 3
 -- a is a quicker medium than b, both known
 abbrev pub quickerOf : Medium → Medium → Bool
 quickerOf a b = ltb (speedOf b) 3 && ltb (speedOf a) (speedOf b)
+
+-- a medium and a role by their numbers, modulo 4
+abbrev pub mediumOf : ℕ → Medium
+mediumOf x =
+    cond (eqb (x % 4) 0) medium.Ble (cond (eqb (x % 4) 1) medium.Wired
+    (cond (eqb (x % 4) 2) medium.Wireless medium.Unknown))
+
+abbrev pub roleOf : ℕ → Role
+roleOf x = cond (eqb (x % 4) 0) role.Never (cond (eqb (x % 4) 1) role.Backup
+    (cond (eqb (x % 4) 2) role.Normal role.Preferred))

@@ -1,5 +1,5 @@
--- Rivals and their orders (document 01, "Choice": "least score, then index, by totalOrder"; "by medium, score, index"; "known RTT
--- first, then RTT, index"), and what the refusals 6 and 12 ask of a field of given rivals.
+-- Rivals and their orders (document 01, "Choice": "least score, then index, by totalOrder"; "by medium, score, index";
+-- "known RTT first, then RTT, index"), and what the refusals 6 and 12 ask of a field of given rivals.
 use Prim.Native.Nat.{ℕ, suc}
 use mathlib.Core.Bool.{Bool, true, false, not, cond, _&&_, _||_, Bool·beq}
 use mathlib.Core.List.{List, [], _∷_}
@@ -10,6 +10,10 @@ use Rattle.total.specs.Values.{totalOf}
 use Rattle.select.specs.Media.{speedOf}
 use Rattle.select.specs.declared.types.Rival.{Rival}
 use Rattle.select.specs.declared.types.Medium.the-variants.{Ble}
+
+-- the paths of a peer, and so the places of a field, `PATH_MAX_PER_PEER`
+abbrev pub maxPaths : ℕ
+maxPaths = 8
 
 -- a place of the field with no rival
 abbrev pub noRival : Rival
@@ -47,6 +51,10 @@ placed n (r ∷ l) = cond (atPlace n r) (placed (suc n) l) false
 
 -- ---- the orders: a comes before b
 
+-- the highest tier first
+abbrev pub byTier : Rival → Rival → Bool
+byTier a b = ltb (b .tier) (a .tier)
+
 -- by score, then index, by totalOrder
 abbrev pub byScore : Rival → Rival → Bool
 byScore a b = not (totalOf (b .score) (a .score)) || (totalOf (a .score) (b .score) && ltb (a .index) (b .index))
@@ -64,4 +72,5 @@ tripOf r = cond (r .timed) (r .rtt) 0
 abbrev pub byTrip : Rival → Rival → Bool
 byTrip a b =
     (a .timed && not (b .timed))
-    || (Bool·beq (a .timed) (b .timed) && (ltb (tripOf a) (tripOf b) || (eqb (tripOf a) (tripOf b) && ltb (a .index) (b .index))))
+    || (Bool·beq (a .timed) (b .timed) && (ltb (tripOf a) (tripOf b) ||
+    (eqb (tripOf a) (tripOf b) && ltb (a .index) (b .index))))

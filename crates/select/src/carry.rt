@@ -1,9 +1,9 @@
 // The largest frame that a path carries.
 ghost use mathlib.Core.Path.{_≡_};
-ghost use Prim.Native.Nat.{min};
 ghost use Rattle.select.specs.Carried.{heededOf, carriedFrame};
 use crate::types::*;
 use base::limits::MAX_LEN;
+use base::types::MaybeLen;
 use base::types::Refusal;
 
 // The bytes of a frame around a path message.
@@ -16,28 +16,19 @@ pub fn heeded(oriented: bool) -> bool
     !oriented
 }
 
-// The smaller of two lengths.
-fn shorter(a: u32, b: u32) -> u32
-    ensures { λ r. ⌜ r ≡ min a b ⌝ }
-{
-    if a < b { a } else { b }
-}
-
 // The largest frame: the link's, or that of the proven size where it is smaller and heeded.
-pub fn carried(link: u32, proven: MaybeSize, oriented: bool) -> SizeAnswer
+pub fn carried(link: u32, proven: MaybeLen, oriented: bool) -> SizeAnswer
     ensures { λ r. ⌜ r ≡ carriedFrame link proven oriented ⌝ }
 {
     if MAX_LEN < link {
         return SizeAnswer::Refused(Refusal::Length);
     }
     match proven {
-        MaybeSize::None => SizeAnswer::Size(link),
-        MaybeSize::Some(len) => {
-            if MAX_LEN < len {
-                return SizeAnswer::Refused(Refusal::Length);
-            }
+        MaybeLen::None => SizeAnswer::Size(link),
+        MaybeLen::Some(len) => {
             if heeded(oriented) {
-                return SizeAnswer::Size(shorter(link, len + FRAME_OVERHEAD));
+                let frame = (len as u32) + FRAME_OVERHEAD;
+                return SizeAnswer::Size(base::num::min_u32(link, frame));
             }
             SizeAnswer::Size(link)
         }

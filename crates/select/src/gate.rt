@@ -1,9 +1,9 @@
 // Which rivals are ranked.
 ghost use mathlib.Core.Path.{_≡_};
-ghost use Prim.Native.Nat.{max};
 ghost use Rattle.base.specs.Seq.{every};
 ghost use Rattle.select.specs.Rivals.{isLong, atPlace, placed};
-ghost use Rattle.select.specs.Scans.{isNamed, isRanked, asksOf, lacksOf, topOf, gateOf};
+ghost use Rattle.select.specs.Passes.{isNamed, isRanked, asksOf, lacksOf, topOf, gateOf};
+use crate::passes::*;
 use crate::types::*;
 use base::limits::DURATION_END;
 
@@ -76,13 +76,6 @@ pub fn in_place(field: [Rival; PATH_MAX_PER_PEER]) -> bool
     true
 }
 
-// The higher of two tiers.
-fn higher(a: u8, b: u8) -> u8
-    ensures { λ k. ⌜ k ≡ max a b ⌝ }
-{
-    if a < b { b } else { a }
-}
-
 // The highest tier among those that the pins leave.
 fn top_tier(field: [Rival; PATH_MAX_PER_PEER], pinned: bool) -> u8
     ensures { λ k. ⌜ k ≡ topOf pinned field ⌝ }
@@ -93,7 +86,7 @@ fn top_tier(field: [Rival; PATH_MAX_PER_PEER], pinned: bool) -> u8
         let r = field[i];
         i += 1;
         if named(pinned, r) {
-            top = higher(top, r.tier);
+            top = base::num::max_u8(top, r.tier);
         }
     }
     top

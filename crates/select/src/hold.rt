@@ -1,7 +1,8 @@
 // What holds a change of the active path, and the hold on the link's cost after one.
 ghost use mathlib.Core.Path.{_≡_};
 ghost use Prim.Native.Nat.{_-_};
-ghost use Rattle.select.specs.Hold.{keptOf, fasterOf, beatsOf, staysOf, aboveOf, eitherLong, heldOf, waitsOf, newHold, reportOf, holdsOf, costOf};
+ghost use Rattle.select.specs.Hold.{keptOf, fasterOf, beatsOf, staysOf, aboveOf, eitherLong, heldOf, waitsOf};
+ghost use Rattle.select.specs.Hold.{newHold, reportOf, holdsOf, costOf};
 use crate::types::*;
 use base::limits::DURATION_END;
 use base::types::Refusal;

@@ -1,6 +1,6 @@
 // Roles and media.
 ghost use mathlib.Core.Path.{_≡_};
-ghost use Rattle.select.specs.Media.{tierOf, speedOf, quickerOf};
+ghost use Rattle.select.specs.Media.{tierOf, speedOf, quickerOf, mediumOf, roleOf};
 use crate::types::*;
 
 // The tier of a role, higher ranking first.
@@ -34,4 +34,30 @@ pub fn quicker(a: Medium, b: Medium) -> bool
     let x = speed(a);
     let y = speed(b);
     (y < 3) & (x < y)
+}
+
+// A medium by its number, modulo 4.
+pub fn medium_of(x: u64) -> Medium
+    ensures { λ r. ⌜ r ≡ mediumOf x ⌝ }
+{
+    let n = x % 4;
+    match n {
+        0 => Medium::Ble,
+        1 => Medium::Wired,
+        2 => Medium::Wireless,
+        _ => Medium::Unknown,
+    }
+}
+
+// A role by its number, modulo 4.
+pub fn role_of(x: u64) -> Role
+    ensures { λ r. ⌜ r ≡ roleOf x ⌝ }
+{
+    let n = x % 4;
+    match n {
+        0 => Role::Never,
+        1 => Role::Backup,
+        2 => Role::Normal,
+        _ => Role::Preferred,
+    }
 }

@@ -1,7 +1,8 @@
 // One scan of the field: the first, in an order, of the rivals that it looks for.
 ghost use mathlib.Core.Path.{_≡_};
 ghost use Rattle.select.specs.Rivals.{byScore, tripOf, byTrip};
-ghost use Rattle.select.specs.Scans.{takesOf, beforeOf, betterIn, scanOf};
+ghost use Rattle.select.specs.Passes.{takesOf, beforeOf, betterIn, firstTaken};
+use crate::passes::*;
 use crate::types::*;
 
 // The order by score, then index: strictly before.
@@ -79,7 +80,7 @@ fn better(w: Want, f: MaybeRival, r: Rival) -> MaybeRival
 
 // The first of the rivals that a scan for `w` takes.
 pub fn least(field: [Rival; PATH_MAX_PER_PEER], w: Want) -> MaybeRival
-    ensures { λ k. ⌜ k ≡ scanOf w field ⌝ }
+    ensures { λ k. ⌜ k ≡ firstTaken w field ⌝ }
 {
     let mut f = MaybeRival::None;
     let mut i: usize = 0;

@@ -22,8 +22,8 @@ pub enum Role {
     Preferred,
 }
 
-// A path that a choice may take, in its place of the field; where `held` is false there is none. Of score, steady, rtt and base the
-// mark (scored, steadied, timed, based) says whether there is one.
+// A path that a choice may take, in its place of the field; where `held` is false there is none. Of score, steady, rtt
+// and base the mark (scored, steadied, timed, based) says whether there is one.
 pub struct Rival {
     pub score: f64,
     pub steady: f64,
@@ -74,36 +74,6 @@ pub enum MaybeRival {
     Some(Rival),
 }
 
-// A path message length, or none.
-pub enum MaybeSize {
-    None,
-    Some(u32),
-}
-
-// Who is ranked: the pinned, if any; of those the ones of the highest tier; of those the fitting, if any.
-pub struct Gate {
-    pub top: u8,
-    pub pinned: bool,
-    pub fit: bool,
-}
-
-// What a test over the field asks of a rival: a duration that is too long; a pin; in the highest tier that the pins leave, that it
-// fits.
-pub enum Test {
-    Long,
-    Pinned,
-    Fits(bool, u8),
-}
-
-// What a scan looks for among the ranked: the scored; the preferred near a limit; those near a limit over a quicker medium, preferred
-// ones only where one was picked; all, by their round trips.
-pub enum Want {
-    Scored(Gate),
-    Preferred(Gate, f64),
-    Quicker(Gate, f64, bool, Medium),
-    Timed(Gate),
-}
-
 // The answer of `choose`: the place of the path.
 pub enum Chosen {
     Slot(usize),
@@ -137,7 +107,8 @@ pub enum SizeAnswer {
     Refused(Refusal),
 }
 
-// The hold on a link's cost after a change of active path: the cost from before, the instant of the change, and the reports owed.
+// The hold on a link's cost after a change of active path: the cost from before, the instant of the change, and the
+// reports owed.
 pub struct Hold {
     pub cost: f64,
     pub at: u64,

@@ -1,8 +1,8 @@
--- The stop of a path (document 01, "Files and tail": "`halt` (unless stopped): free = at + 1 s, gap and used 1 s; if active, until =
--- quiet (else at) + 30 s. Only while stopped: `spend`: used = gap, free = at + gap; gap 1 s before until, else doubled to at most 30 s;
--- owed cleared. If owed, `rebase` clears it and, if ok, lifts free to at least at + used"; `owe`, `stopped`, `held` and `recheck` as in
--- the Rust), and its silence ("Ring and late list": "`quiet` keeps the first send's instant"). Times are nanoseconds, an instant +
--- duration is `deadlineOf`.
+-- The stop of a path (document 01, "Files and tail": "`halt` (unless stopped): free = at + 1 s, gap and used 1 s; if
+-- active, until = quiet (else at) + 30 s. Only while stopped: `spend`: used = gap, free = at + gap; gap 1 s before
+-- until, else doubled to at most 30 s; owed cleared. If owed, `rebase` clears it and, if ok, lifts free to at least at
+-- + used"; `owe`, `stopped`, `held` and `recheck` as in the Rust), and its silence ("Ring and late list": "`quiet`
+-- keeps the first send's instant"). Times are nanoseconds, an instant + duration is `deadlineOf`.
 use Prim.Native.Nat.{ℕ, _*_, _^_, min, max}
 use mathlib.Core.Bool.{Bool, true, false, cond}
 use lib.Dec.{ltb}

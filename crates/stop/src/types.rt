@@ -3,8 +3,8 @@ ghost use mathlib.Core.Path.{_≡_};
 ghost use Rattle.stop.specs.Silence.{newSilence};
 use base::types::MaybeTime;
 
-// A stop: the instant from which the next probe may go, the least gap after it, the gap that the latest one used, the instant until
-// which the path is rechecked, and whether the latest slot is owed to a connection.
+// A stop: the instant from which the next probe may go, the least gap after it, the gap that the latest one used, the
+// instant until which the path is rechecked, and whether the latest slot is owed to a connection.
 pub struct Stop {
     pub free: u64,
     pub gap: u64,

@@ -1,5 +1,5 @@
--- The order on values against totalOrder of the patterns (IEEE 754-2019, 5.10): one and the same where no pattern is a NaN's, and with
--- the NaN taken for the positive quiet one with no payload.
+-- The order on values against totalOrder of the patterns (IEEE 754-2019, 5.10): one and the same where no pattern is a
+-- NaN's, and with the NaN taken for the positive quiet one with no payload.
 -- Assumes nothing.
 use mathlib.Core.Path.{_≡_, refl, sym, ap, _∙_}
 use mathlib.Core.Logic.{_⊎_, inl, inr}

@@ -1,5 +1,5 @@
--- The order on values, where there is one NaN, with no sign and no payload; clamp and maximum. (Document 01, "RTT, ETX, score":
--- "clamp and maximum are ours"; "Choice": "by totalOrder".)
+-- The order on values, where there is one NaN, with no sign and no payload; clamp and maximum. (Document 01, "RTT, ETX,
+-- score": "clamp and maximum are ours"; "Choice": "by totalOrder".)
 use mathlib.Core.Bool.{Bool, true, false, not, cond, _||_}
 use lib.Ieee.{Float, nan, inf, fin, lt, isNan}
 

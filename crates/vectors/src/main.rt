@@ -1,6 +1,6 @@
-// Replays a fixed list of the Rust's answers. A record on standard input has 64 calls of 48 bytes, the 64 answers that the unchanged
-// Rust gave, 48 bytes each, and the image of its path after them, 1,800 bytes. Prints how many records agree with ours, of how many,
-// and how many bytes are left over.
+// Replays a fixed list of the Rust's answers. A record on standard input has 64 calls of 48 bytes, the 64 answers that
+// the unchanged Rust gave, 48 bytes each, and the image of its path after them, 1,800 bytes. Prints how many records
+// agree with ours, of how many, and how many bytes are left over.
 use libc::STDIN_FILENO;
 use libc::STDOUT_FILENO;
 

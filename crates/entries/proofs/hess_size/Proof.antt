@@ -1,52 +1,70 @@
 -- `entries::hess_size` meets its contract.
 -- Assumes nothing.
+use mathlib.Core.Path.{sym, _∙_}
+use native.Mathlib.Omega.{arith}
 use Rattle.entries.specs.Entries.{sizeReply}
-use borrow.Author.Tests.{lt-ltb, le-ltb, le-leb, lt-leb}
+use Rattle.entries.proofs.PartLaws.{inside}
 use borrow.Author.Needs.{needs}
 use Rattle.entries.proofs.hess_size.Statement.{statement}
 use Rattle.entries.proofs.hess_size.Tie as tie
 
+outside-requires : tie.Need-outside-requires
+outside-requires c κs = search needs
+
+refuse-requires : tie.Need-refuse-requires
+refuse-requires c κs = search needs
+
 returns : tie.Need-returns
 unfolding sizeReply
-returns c = rw (lt-ltb _ _ (c .if1 .taken))
-
-returns-2 : tie.Need-returns-2
-unfolding sizeReply
-returns-2 c = rw (le-ltb _ _ (c .before .if1 .left), lt-ltb _ _ (c .if2 .taken))
-
-returns-3 : tie.Need-returns-3
-unfolding sizeReply
-returns-3 c = rw (le-ltb _ _ (c .before .before .if1 .left), le-ltb _ _ (c .before .if2 .left), lt-ltb _ _ (c .if3 .taken))
+returns c = rw (sym (c .before .before .outside .ensures) ∙ c .before .if1 .taken) (c .refuse .ensures)
 
 cast-ladder : tie.Need-cast-ladder
-cast-ladder c = search needs
+cast-ladder c = omega (
+  arith,
+  inside (c .before .before .args .full) (c .before .before .args .last)
+      (sym (c .before .outside .ensures) ∙ c .if1 .left) .1,
+)
 
 ladder-requires : tie.Need-ladder-requires
 ladder-requires c κs = search needs
 
 cast-size : tie.Need-cast-size
-cast-size c = search needs
+cast-size c = omega (
+  arith,
+  inside (c .before .before .before .args .full) (c .before .before .before .args .last)
+      (sym (c .before .before .outside .ensures) ∙ c .before .if1 .left) .0,
+)
 
 size-requires : tie.Need-size-requires
 size-requires c κs = search needs
 
-cast-t9 : tie.Need-cast-t9
-cast-t9 c = search needs
+cast-give : tie.Need-cast-give
+cast-give c = search needs
 
-returns-4 : tie.Need-returns-4
+give-requires : tie.Need-give-requires
+give-requires c κs = search needs
+
+returns-2 : tie.Need-returns-2
 unfolding sizeReply
-returns-4 c = rw (le-ltb _ _ (c .before .before .before .before .if1 .left), le-ltb _ _ (c .before .before .before .if2 .left), le-ltb _ _ (c .before .before .if3 .left), c .size .ensures, c .before .ladder .ensures)
+returns-2 c = rw (
+  sym (c .before .before .before .before .outside .ensures) ∙ c .before .before .before .if1 .left,
+  c
+      .give .ensures,
+  c .before .size .ensures,
+  c .before .before .ladder .ensures,
+)
 
 pub hess-size-spec : {M : Type 1} → statement M
 hess-size-spec =
     tie.close
     (tie.spec
+    outside-requires
+    refuse-requires
     returns
-    returns-2
-    returns-3
     cast-ladder
     ladder-requires
     cast-size
     size-requires
-    cast-t9
-    returns-4)
+    cast-give
+    give-requires
+    returns-2)

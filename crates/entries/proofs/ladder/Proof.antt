@@ -4,11 +4,11 @@ use borrow.Author.Needs.{needs}
 use Rattle.entries.proofs.ladder.Statement.{statement}
 use Rattle.entries.proofs.ladder.Tie as tie
 
-returns : tie.Need-returns
-returns c = rw (c .if1 .taken)
+maybe-len-requires : tie.Need-maybe-len-requires
+maybe-len-requires c κs = search needs
 
-returns-2 : tie.Need-returns-2
-returns-2 c = rw (c .if1 .left)
+returns : tie.Need-returns
+returns c = rw (c .maybe-len .ensures)
 
 pub ladder-spec : {M : Type 1} → statement M
-ladder-spec = tie.close (tie.spec returns returns-2)
+ladder-spec = tie.close (tie.spec maybe-len-requires returns)

@@ -8,7 +8,7 @@ returns : tie.Need-returns
 returns c = rw (c .if1 .taken)
 
 returns-2 : tie.Need-returns-2
-returns-2 c = rw (c .if1 .left)
+returns-2 c = search needs
 
 pub maybe-spec : {M : Type 1} → statement M
 maybe-spec = tie.close (tie.spec returns returns-2)

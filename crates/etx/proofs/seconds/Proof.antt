@@ -1,4 +1,5 @@
--- `etx::seconds` meets its contract. Both parts of a u64 of nanoseconds are below 2 ^ 53, where every whole number is an f64.
+-- `etx::seconds` meets its contract. Both parts of a u64 of nanoseconds are below 2 ^ 53, where every whole number is
+-- an f64.
 -- Assumes nothing.
 use borrow.Author.Needs.{needs}
 use native.Mathlib.Omega.{arith}

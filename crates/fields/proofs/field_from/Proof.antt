@@ -3,17 +3,17 @@
 use borrow.Author.Needs.{needs}
 use Prim.Native.Nat.{_-_, _≤_}
 use native.Mathlib.Omega.{arith}
-use mathlib.Core.Path.{ap, sym, _∙_}
+use mathlib.Core.Path.{ap, _∙_}
 use lib.ListN.{length, replicate}
 use denote.Ref.{now}
 use Rattle.select.specs.declared.types.Rival.{Rival}
-use Rattle.fields.specs.Fields.{rivalFrom}
+use Rattle.fields.specs.Fields.{fieldLen, rivalFrom}
 use Rattle.fields.proofs.FieldLaws.{Taking, taking-start, taking-next, taking-end, tail-from, field-short}
 use Rattle.fields.proofs.field_from.Statement.{statement}
 use Rattle.fields.proofs.field_from.Tie as tie
 
 abbrev Inv-loop : tie.InvT-loop
-Inv-loop bytes field₀ i₀ at₀ field i at = (768 ≤ length bytes) × Taking bytes 8 field i at
+Inv-loop bytes field₀ i₀ at₀ field i at = (fieldLen ≤ length bytes) × Taking bytes 8 field i at
 
 abbrev μ-loop : tie.MeasureT-loop
 μ-loop bytes field₀ i₀ at₀ field i at = 8 - i
@@ -55,7 +55,13 @@ loop-less : tie.Need-loop-less Inv-loop μ-loop
 loop-less c = search needs
 
 loop-again : tie.Need-loop-again Inv-loop μ-loop
-loop-again c = (c .before .before .before .loop .inv .0, taking-next (c .before .before .before .loop .inv .1) (c .before .before .loop-test .taken) (c .rival-from .ensures ∙ ap rivalFrom (tail-from (now (c .before .before .before .before .before .before .before .args .bytes)) (c .before .before .before .loop .at))))
+loop-again c = (
+  c .before .before .before .loop .inv .0,
+  taking-next (c .before .before .before .loop .inv .1)
+      (c .before .before .loop-test .taken) (c .rival-from .ensures ∙ ap rivalFrom
+      (tail-from (now (c .before .before .before .before .before .before .before .args .bytes))
+      (c .before .before .before .loop .at))),
+)
 
 returns-2 : tie.Need-returns-2 Inv-loop μ-loop
 returns-2 c = taking-end (c .before .loop .inv .1) (c .loop-test .left) (c .before .loop .inv .0)

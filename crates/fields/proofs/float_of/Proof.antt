@@ -1,12 +1,12 @@
--- `fields::float_of` meets its contract: a pattern is a NaN's where its lower 63 bits are above an infinity's (`nanBits-above`).
+-- `fields::float_of` meets its contract: a pattern is a NaN's where its lower 63 bits are above an infinity's
+-- (`nanBits-above`).
 -- Assumes nothing.
 use mathlib.Core.Path.{_≡_, refl, sym, _∙_, subst}
-use mathlib.Core.Bool.{Bool, true, false, not, false≢true}
+use mathlib.Core.Bool.{Bool, true, not, false≢true}
 use borrow.Author.Tests.{lt-ltb, le-ltb}
 use lib.Dec.{T}
 use lib.Ieee.{Float, nan, inf, fin, binary64, ofBits, div, isNan}
 use lib.Ieee.Bits.{nanBits-is, nanBits-above}
-use Rattle.fields.specs.Fields.{floatOf}
 use Rattle.fields.proofs.float_of.Statement.{statement}
 use Rattle.fields.proofs.float_of.Tie as tie
 
@@ -29,7 +29,8 @@ zero-by-zero = refl
 returns : tie.Need-returns
 returns c =
     let n = c .before .args .bits in
-    zero-by-zero ∙ the-nan (ofBits binary64 n) (sym (nanBits-is binary64 n) ∙ nanBits-above binary64 n ∙ lt-ltb _ _ (c .if1 .taken))
+    zero-by-zero ∙ the-nan (ofBits binary64 n) (sym (nanBits-is binary64 n) ∙ nanBits-above binary64 n ∙ lt-ltb _ _
+    (c .if1 .taken))
 
 returns-2 : tie.Need-returns-2
 returns-2 c = refl

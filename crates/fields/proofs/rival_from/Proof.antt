@@ -2,7 +2,8 @@
 -- Assumes nothing.
 use mathlib.Core.Path.{ap, _∙_}
 use Prim.Native.Nat.{ℕ, _/_}
-use Rattle.fields.specs.Fields.{floatOf, bitOf, mediumOf}
+use Rattle.fields.specs.Fields.{floatOf, bitOf}
+use Rattle.select.specs.Media.{mediumOf}
 use Rattle.fields.proofs.FieldLaws.{rival-made}
 use borrow.Author.Needs.{needs}
 use Rattle.fields.proofs.rival_from.Statement.{statement}
@@ -83,21 +84,45 @@ bit-requires-8 c κs = search needs
 returns : tie.Need-returns
 returns c =
     rival-made _
-    (c .before .before .before .before .before .before .before .before .before .before .before .before .before .before .before .before .before .before .before .float-of .ensures ∙ ap floatOf (c .before .before .before .before .before .before .before .before .before .before .before .before .before .before .before .before .before .before .before .before .get2 .ensures))
-    (c .before .before .before .before .before .before .before .before .before .before .before .before .before .before .before .before .before .float-of2 .ensures ∙ ap floatOf (c .before .before .before .before .before .before .before .before .before .before .before .before .before .before .before .before .before .before .get3 .ensures))
-    (c .before .before .before .before .before .before .before .before .before .before .before .before .before .before .before .before .get4 .ensures)
-    (c .before .before .before .before .before .before .before .before .before .before .before .before .before .before .before .get5 .ensures)
-    (c .before .before .before .before .before .before .before .before .before .before .before .before .before .before .get6 .ensures)
-    (c .before .before .before .before .before .before .before .before .before .before .before .before .before .get7 .ensures)
-    (c .before .before .before .before .before .before .before .before .before .before .before .bit .ensures ∙ ap bitOf (c .before .before .before .before .before .before .before .before .before .before .before .before .get8 .ensures))
-    (c .before .before .before .before .before .before .before .before .before .bit2 .ensures ∙ ap bitOf (c .before .before .before .before .before .before .before .before .before .before .get9 .ensures))
-    (c .before .before .before .before .before .before .before .bit3 .ensures ∙ ap bitOf (c .before .before .before .before .before .before .before .before .get10 .ensures))
-    (c .before .before .before .before .before .bit4 .ensures ∙ ap bitOf (c .before .before .before .before .before .before .get11 .ensures))
+    (c .before .before .before .before .before .before .before .before .before .before .before .before .before .before
+    .before .before .before .before .before .float-of .ensures ∙ ap floatOf
+    (c .before .before .before .before .before .before .before .before .before .before .before .before .before
+    .before .before .before .before .before .before .before .get2 .ensures))
+    (c .before .before .before .before .before .before .before .before .before .before .before .before .before .before
+    .before .before .before .float-of2 .ensures ∙ ap floatOf
+    (c .before .before .before .before .before .before .before .before .before .before .before .before .before
+    .before .before .before .before .before .get3 .ensures))
+    (c .before .before .before .before .before .before .before .before .before .before .before .before .before .before
+    .before .before .get4 .ensures)
+    (c .before .before .before .before .before .before .before .before .before .before .before .before .before .before
+    .before .get5 .ensures)
+    (c .before .before .before .before .before .before .before .before .before .before .before .before .before .before
+    .get6 .ensures)
+    (c .before .before .before .before .before .before .before .before .before .before .before .before .before .get7
+    .ensures)
+    (c .before .before .before .before .before .before .before .before .before .before .before .bit .ensures ∙ ap bitOf
+    (c .before .before .before .before .before .before .before .before .before .before .before .before .get8
+    .ensures))
+    (c .before .before .before .before .before .before .before .before .before .bit2 .ensures ∙ ap bitOf
+    (c .before .before .before .before .before .before .before .before .before .before .get9 .ensures))
+    (c .before .before .before .before .before .before .before .bit3 .ensures ∙ ap bitOf
+    (c .before .before .before .before .before .before .before .before .get10 .ensures))
+    (c .before .before .before .before .before .bit4 .ensures ∙ ap bitOf
+    (c .before .before .before .before .before .before .get11 .ensures))
     (c .before .before .before .bit5 .ensures ∙ ap bitOf (c .before .before .before .before .get12 .ensures))
-    (c .before .before .bit6 .ensures ∙ ap bitOf (c .before .before .before .before .before .before .before .before .before .before .before .before .before .before .before .before .before .before .before .before .before .before .get .ensures))
-    (c .before .bit7 .ensures ∙ ap (λ (z : ℕ). bitOf (z / 2)) (c .before .before .before .before .before .before .before .before .before .before .before .before .before .before .before .before .before .before .before .before .before .before .get .ensures))
-    (c .bit8 .ensures ∙ ap (λ (z : ℕ). bitOf (z / 4)) (c .before .before .before .before .before .before .before .before .before .before .before .before .before .before .before .before .before .before .before .before .before .before .get .ensures))
-    (c .before .before .before .before .before .before .before .before .before .before .before .before .before .before .before .before .before .before .before .before .before .medium-of .ensures ∙ ap (λ (z : ℕ). mediumOf (z / 16)) (c .before .before .before .before .before .before .before .before .before .before .before .before .before .before .before .before .before .before .before .before .before .before .get .ensures))
+    (c .before .before .bit6 .ensures ∙ ap bitOf (c .before .before .before .before .before .before .before .before
+    .before .before .before .before .before .before .before .before .before .before .before .before .before .before
+    .get .ensures))
+    (c .before .bit7 .ensures ∙ ap (λ (z : ℕ). bitOf (z / 2))
+    (c .before .before .before .before .before .before .before .before .before .before .before .before .before
+    .before .before .before .before .before .before .before .before .before .get .ensures))
+    (c .bit8 .ensures ∙ ap (λ (z : ℕ). bitOf (z / 4)) (c .before .before .before .before .before .before .before .before
+    .before .before .before .before .before .before .before .before .before .before .before .before .before .before
+    .get .ensures))
+    (c .before .before .before .before .before .before .before .before .before .before .before .before .before .before
+    .before .before .before .before .before .before .before .medium-of .ensures ∙ ap (λ (z : ℕ). mediumOf (z / 16))
+    (c .before .before .before .before .before .before .before .before .before .before .before .before .before
+    .before .before .before .before .before .before .before .before .before .get .ensures))
 
 pub rival-from-spec : {M : Type 1} → statement M
 rival-from-spec =

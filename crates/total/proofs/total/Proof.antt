@@ -1,4 +1,5 @@
--- `total::total` meets its contract: past the tests for a NaN and for less the two are equal, and 1 / x shows the sign of a zero.
+-- `total::total` meets its contract: past the tests for a NaN and for less the two are equal, and 1 / x shows the sign
+-- of a zero.
 -- Assumes nothing.
 use mathlib.Core.Path.{sym, _∙_}
 use Rattle.total.specs.Values.{totalOf}

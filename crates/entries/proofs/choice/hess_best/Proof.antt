@@ -1,14 +1,18 @@
 -- `entries::choice::hess_best` meets its contract.
 -- Assumes nothing.
 use mathlib.Core.Path.{ap, _∙_}
+use Rattle.select.specs.Answers.{bestNumber}
 use Rattle.select.specs.Choice.{bestOf}
-use Rattle.entries.proofs.ChoiceLaws.{best-cut, best-done, over-none}
+use Rattle.entries.proofs.ChoiceLaws.{best-cut, best-done, best-not, zero-words}
 use borrow.Author.Needs.{needs}
 use Rattle.entries.proofs.choice.hess_best.Statement.{statement}
 use Rattle.entries.proofs.choice.hess_best.Tie as tie
 
+number-requires : tie.Need-number-requires
+number-requires c κs = search needs
+
 returns : tie.Need-returns
-returns c = best-cut _ _ (c .if1 .taken)
+returns c = best-cut _ _ (c .before .if1 .taken) (c .number .ensures)
 
 field-from-requires : tie.Need-field-from-requires
 field-from-requires c κs = search needs
@@ -34,28 +38,42 @@ put-best-requires-2 c κs = search needs
 enum-known-why : tie.Need-enum-known-why
 enum-known-why c = search needs
 
-number-requires : tie.Need-number-requires
-number-requires c κs = search needs
+number-requires-2 : tie.Need-number-requires-2
+number-requires-2 c κs = search needs
 
 same-length : tie.Need-same-length
 same-length c = search needs
 
 returns-2 : tie.Need-returns-2
-returns-2 c = best-done _ _ (c .before .before .before .before .before .before .before .before .before .before .if1 .left) (c .before .before .before .before .before .before .before .before .best .ensures ∙ ap bestOf (c .before .before .before .before .before .before .before .before .before .field-from .ensures)) (rw (c .before .before .before .before .before .before .x .given .1) (c .before .before .put-best .ensures .0)) (rw (c .before .before .before .before .before .before .x .given .1, c .before .before .before .etx-bits .ensures)) (c .before .before .put-best .ensures .1)
+returns-2 c = best-done _ _ (c .before .before .before .before .before .before .before .before .before .before .if1
+    .left) (c .before .before .before .before .before .before .before .before .best .ensures ∙ ap bestOf
+    (c .before .before .before .before .before .before .before .before .before .field-from .ensures))
+    (ap bestNumber (c .before .before .before .before .before .before .x .given .1))
+    (c .before .before .put-best .ensures .0)
+    (rw (c .before .before .before .before .before .before .x .given .1, c .before .before .before .etx-bits .ensures))
+    (c .before .before .put-best .ensures .1)
 
 same-length-2 : tie.Need-same-length-2
 same-length-2 c = search needs
 
 returns-3 : tie.Need-returns-3
-returns-3 c = best-done _ _ (c .before .before .before .before .before .before .before .before .if1 .left) (c .before .before .before .before .before .before .best .ensures ∙ ap bestOf (c .before .before .before .before .before .before .before .field-from .ensures)) (rw (c .before .before .before .before .enum-told .given .1) (c .before .before .put-best2 .ensures .0)) (rw (c .before .before .before .before .enum-told .given .1)) (c .before .before .put-best2 .ensures .1)
+returns-3 c = best-done _ _ (c .before .before .before .before .before .before .before .before .if1 .left)
+    (c .before .before .before .before .before .before .best .ensures ∙ ap bestOf
+    (c .before .before .before .before .before .before .before .field-from .ensures))
+    (ap bestNumber (c .before .before .before .before .enum-told .given .1)) (c .before .before .put-best2 .ensures .0)
+    (zero-words (c .before .before .before .before .enum-told .given .1)) (c .before .before .put-best2 .ensures .1)
 
 returns-4 : tie.Need-returns-4
-returns-4 c = best-done _ _ (c .before .before .before .before .before .before .if1 .left) (c .before .before .before .before .best .ensures ∙ ap bestOf (c .before .before .before .before .before .field-from .ensures)) (rw (c .before .before .why .given .1) (c .number .ensures)) (rw (c .before .before .why .given .1)) (over-none _)
+returns-4 c = best-not _ _ (c .before .before .before .before .before .before .if1 .left)
+    (c .before .before .before .before .best .ensures ∙ ap bestOf
+    (c .before .before .before .before .before .field-from .ensures)) (c .before .before .why .given .1)
+    (c .number2 .ensures)
 
 pub hess-best-spec : {M : Type 1} → statement M
 hess-best-spec =
     tie.close
     (tie.spec
+    number-requires
     returns
     field-from-requires
     best-requires
@@ -65,7 +83,7 @@ hess-best-spec =
     enum-told
     put-best-requires-2
     enum-known-why
-    number-requires
+    number-requires-2
     same-length
     returns-2
     same-length-2

@@ -1,14 +1,17 @@
 -- `entries::choice::hess_choose` meets its contract.
 -- Assumes nothing.
-use Rattle.entries.specs.Choice.{chooseReply}
 use borrow.Author.Tests.{eq-eqb, ne-eqb}
+use Rattle.entries.specs.Choice.{chooseReply}
 use borrow.Author.Needs.{needs}
 use Rattle.entries.proofs.choice.hess_choose.Statement.{statement}
 use Rattle.entries.proofs.choice.hess_choose.Tie as tie
 
+refuse-requires : tie.Need-refuse-requires
+refuse-requires c κs = search needs
+
 returns : tie.Need-returns
 unfolding chooseReply
-returns c = rw (ne-eqb _ _ (c .if1 .taken))
+returns c = rw (ne-eqb _ _ (c .before .if1 .taken)) (c .refuse .ensures)
 
 field-from-requires : tie.Need-field-from-requires
 field-from-requires c κs = search needs
@@ -21,8 +24,20 @@ of-chosen-requires c κs = search needs
 
 returns-2 : tie.Need-returns-2
 unfolding chooseReply
-returns-2 c = rw (eq-eqb _ _ (c .before .before .before .if1 .left), c .of-chosen .ensures, c .before .choose .ensures, c .before .before .field-from .ensures)
+returns-2 c = rw (
+  eq-eqb _ _ (c .before .before .before .if1 .left),
+  c .of-chosen .ensures,
+  c .before .choose .ensures,
+  c .before .before .field-from .ensures,
+)
 
 pub hess-choose-spec : {M : Type 1} → statement M
 hess-choose-spec =
-    tie.close (tie.spec returns field-from-requires choose-requires of-chosen-requires returns-2)
+    tie.close
+    (tie.spec
+    refuse-requires
+    returns
+    field-from-requires
+    choose-requires
+    of-chosen-requires
+    returns-2)

@@ -1,19 +1,21 @@
 -- `entries::choice::hess_held` meets its contract.
 -- Assumes nothing.
-use Rattle.entries.specs.Choice.{heldFrom}
 use borrow.Author.Tests.{eq-eqb, ne-eqb}
 use mathlib.Core.Path.{ap, _∙_}
-use lib.ListN.{drop}
 use denote.Ref.{now}
-use Rattle.fields.specs.Fields.{rivalFrom}
+use Rattle.fields.specs.Fields.{rivalLen, rivalFrom}
 use Rattle.entries.proofs.PartLaws.{tail-from}
+use Rattle.entries.specs.Choice.{heldFrom}
 use borrow.Author.Needs.{needs}
 use Rattle.entries.proofs.choice.hess_held.Statement.{statement}
 use Rattle.entries.proofs.choice.hess_held.Tie as tie
 
+refuse-requires : tie.Need-refuse-requires
+refuse-requires c κs = search needs
+
 returns : tie.Need-returns
 unfolding heldFrom
-returns c = rw (ne-eqb _ _ (c .if1 .taken))
+returns c = rw (ne-eqb _ _ (c .before .if1 .taken)) (c .refuse .ensures)
 
 rival-from-requires : tie.Need-rival-from-requires
 rival-from-requires c κs = search needs
@@ -38,12 +40,22 @@ of-held-requires c κs = search needs
 
 returns-2 : tie.Need-returns-2
 unfolding heldFrom
-returns-2 c = rw (eq-eqb _ _ (c .before .before .before .before .before .if1 .left), c .of-held .ensures, c .before .held .ensures, c .before .before .rival-from2 .ensures ∙ ap rivalFrom (tail-from (now (c .before .before .before .before .before .before .before .args .pair)) 96), c .before .before .before .before .rival-from .ensures)
+returns-2 c = rw (
+  eq-eqb _ _ (c .before .before .before .before .before .if1 .left),
+  c .of-held .ensures,
+  c .before
+      .held .ensures,
+  c .before .before .rival-from2 .ensures ∙ ap rivalFrom
+      (tail-from (now (c .before .before .before .before .before .before .before .args .pair)) rivalLen),
+  c .before
+      .before .before .before .rival-from .ensures,
+)
 
 pub hess-held-spec : {M : Type 1} → statement M
 hess-held-spec =
     tie.close
     (tie.spec
+    refuse-requires
     returns
     rival-from-requires
     sub-rival-from

@@ -19,7 +19,13 @@ of-cost-requires c κs = search needs
 
 returns : tie.Need-returns
 unfolding holdReply
-returns c = rw (c .of-cost .ensures, c .before .held .ensures, c .before .before .reported .ensures, c .before .before .before .new .ensures)
+returns c = rw (
+  c .of-cost .ensures,
+  c .before .held .ensures,
+  c .before .before .reported .ensures,
+  c .before .before
+      .before .new .ensures,
+)
 
 pub hess-hold-spec : {M : Type 1} → statement M
 hess-hold-spec = tie.close (tie.spec new-requires reported-requires held-requires of-cost-requires returns)

@@ -1,6 +1,7 @@
 -- `entries::choice::put_best` meets its contract.
 -- Assumes nothing.
 use Rattle.entries.proofs.ChoiceLaws.{lent-yes, lent-no}
+use mathlib.Core.Path.{_∙_}
 use borrow.Author.Needs.{needs}
 use Rattle.entries.proofs.choice.put_best.Statement.{statement}
 use Rattle.entries.proofs.choice.put_best.Tie as tie
@@ -15,13 +16,28 @@ same-length : tie.Need-same-length
 same-length c = search needs
 
 returns : tie.Need-returns
-returns c = (lent-yes (c .before .before .before .before .before .before .before .args .tag) (c .before .before .before .before .before .before .before .args .bits) _ (c .before .before .before .put-words .ensures .0) (c .if1 .taken), c .before .before .before .put-words .ensures .1)
+returns c = (
+  lent-yes (c .before .before .before .before .before .before .before .args .tag)
+      (c .before .before .before .before .before .before .before .args .bits) _
+      (c .before .before .before .put-words .ensures .0) (c .if1 .taken),
+  c .before .before .before .put-words .ensures
+      .1,
+)
+
+number-requires : tie.Need-number-requires
+number-requires c κs = search needs
 
 same-length-2 : tie.Need-same-length-2
 same-length-2 c = search needs
 
 returns-2 : tie.Need-returns-2
-returns-2 c = (lent-no (c .before .before .before .before .before .before .before .args .tag) (c .before .before .before .before .before .before .before .args .bits) _ (c .before .before .before .put-words .ensures .0) (c .if1 .left), c .before .before .before .put-words .ensures .1)
+returns-2 c = (
+  c .number .ensures ∙ lent-no (c .before .before .before .before .before .before .before .before .args .tag)
+      (c .before .before .before .before .before .before .before .before .args .bits) _
+      (c .before .before .before .before .put-words .ensures .0) (c .before .if1 .left),
+  c .before .before .before .before
+      .put-words .ensures .1,
+)
 
 pub put-best-spec : {M : Type 1} → statement M
 put-best-spec =
@@ -31,5 +47,6 @@ put-best-spec =
     put-words-requires
     same-length
     returns
+    number-requires
     same-length-2
     returns-2)

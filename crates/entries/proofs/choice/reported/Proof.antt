@@ -2,12 +2,10 @@
 -- Assumes nothing.
 use borrow.Author.Needs.{needs}
 use Prim.Native.Nat.{ℕ, _-_, _≤_}
-use native.Mathlib.Omega.{arith}
 use native.Mathlib.Nat.{le-antisymm}
 use native.Mathlib.Numerals.{add-one}
 use mathlib.Core.Path.{_≡_, refl, ap, _∙_}
 use Rattle.select.specs.Hold.{reportOf}
-use Rattle.select.specs.declared.types.Hold.{Hold}
 use Rattle.entries.specs.Choice.{reportsOf}
 use Rattle.entries.proofs.choice.reported.Statement.{statement}
 use Rattle.entries.proofs.choice.reported.Tie as tie
@@ -34,7 +32,8 @@ loop-again : tie.Need-loop-again Inv-loop μ-loop
 loop-again c = (search needs, rw add-one (c .report .ensures ∙ ap reportOf (c .before .before .loop .inv .1)))
 
 returns : tie.Need-returns Inv-loop μ-loop
-returns c = c .before .loop .inv .1 ∙ ap (λ (n : ℕ). reportsOf n (c .before .before .args .hold)) (le-antisymm (c .before .loop .inv .0) (c .loop-test .left))
+returns c = c .before .loop .inv .1 ∙ ap (λ (n : ℕ). reportsOf n (c .before .before .args .hold))
+    (le-antisymm (c .before .loop .inv .0) (c .loop-test .left))
 
 pub reported-spec : {M : Type 1} → statement M
 reported-spec =

@@ -1,7 +1,7 @@
 -- `live::search::ring_search` meets its contract.
 -- Assumes nothing.
 use borrow.Author.Needs.{needs}
-use mathlib.Core.Path.{refl, sym, _∙_}
+use mathlib.Core.Path.{sym, _∙_}
 use Rattle.live.proofs.search.ring_search.Statement.{statement}
 use Rattle.live.proofs.search.ring_search.Tie as tie
 

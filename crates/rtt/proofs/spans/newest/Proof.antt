@@ -1,4 +1,5 @@
--- `rtt::spans::newest` meets its contract: one pass finds the leader, the last of equals. The measure is the places left.
+-- `rtt::spans::newest` meets its contract: one pass finds the leader, the last of equals. The measure is the places
+-- left.
 -- Assumes nothing.
 use Prim.Native.Nat.{_-_}
 use Rattle.base.proofs.FirstLaws.{by-greatest}

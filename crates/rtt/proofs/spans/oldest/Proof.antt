@@ -1,4 +1,5 @@
--- `rtt::spans::oldest` meets its contract: one pass finds the leader, the first of equals. The measure is the places left.
+-- `rtt::spans::oldest` meets its contract: one pass finds the leader, the first of equals. The measure is the places
+-- left.
 -- Assumes nothing.
 use Prim.Native.Nat.{_-_}
 use Rattle.base.proofs.FirstLaws.{by-least}

@@ -1,13 +1,12 @@
 -- `script::run::run_script` meets its contract.
 -- Assumes nothing.
 use borrow.Author.Needs.{needs}
-use Prim.Native.Nat.{_-_, _≤_, _+_, _<_}
+use Prim.Native.Nat.{_-_}
 use native.Mathlib.Omega.{arith}
-use mathlib.Core.Path.{_≡_, refl, sym, ap, _∙_}
+use mathlib.Core.Path.{ap, _∙_}
 use Rattle.script.specs.Run.{callFrom}
 use lib.ListN.{length}
 use denote.Ref.{now}
-use Rattle.octets.proofs.Fill.{filled-length}
 use Rattle.script.proofs.RunLaws.{Running, running-start, running-room, running-end, running-next, running-done, running-fits, tail-from, over-length, script-cut, script-lent, script-done}
 use Rattle.script.proofs.run.run_script.Statement.{statement}
 use Rattle.script.proofs.run.run_script.Tie as tie

@@ -1,4 +1,5 @@
--- `seek::search::seek_proved` meets its contract: the size is the smaller, and the calls' outcomes are put into each other.
+-- `seek::search::seek_proved` meets its contract: the size is the smaller, and the calls' outcomes are put into each
+-- other.
 -- Assumes nothing.
 use Rattle.seek.proofs.SearchLaws.{acked-short, acked-whole, proved-made}
 use borrow.Author.Needs.{needs}

@@ -17,30 +17,44 @@ enum-told c = search needs
 enum-known-proven : tie.Need-enum-known-proven
 enum-known-proven c = search needs
 
-returns-2 : tie.Need-returns-2
-unfolding carriedFrame
-returns-2 c = simp (le-ltb _ _ (c .before .before .before .before .if1 .left), c .before .before .proven .given .1, lt-ltb _ _ (c .if2 .taken))
-
 heeded-requires : tie.Need-heeded-requires
 heeded-requires c κs = search needs
 
-add-shorter : tie.Need-add-shorter
-add-shorter c = search needs
+cast-frame : tie.Need-cast-frame
+cast-frame c = search needs
 
-shorter-requires : tie.Need-shorter-requires
-shorter-requires c κs = search needs
+add-frame : tie.Need-add-frame
+add-frame c = search needs
+
+min-u32-requires : tie.Need-min-u32-requires
+min-u32-requires c κs = search needs
+
+returns-2 : tie.Need-returns-2
+unfolding carriedFrame
+returns-2 c =
+    let d = c .before .before .before .before in
+    simp (
+      le-ltb _ _ (d .before .before .if1 .left),
+      d .proven .given .1,
+      sym (c .before .before .heeded .ensures) ∙ c
+          .before .if2 .taken,
+      c .min-u32 .ensures,
+    )
 
 returns-3 : tie.Need-returns-3
 unfolding carriedFrame
-returns-3 c = simp (le-ltb _ _ (c .before .before .before .before .before .before .before .if1 .left), c .before .before .before .before .before .proven .given .1, le-ltb _ _ (c .before .before .before .if2 .left), sym (c .before .before .heeded .ensures) ∙ c .before .if3 .taken, c .shorter .ensures)
+returns-3 c = simp (le-ltb _ _ (c .before .before .if1 .left), c .enum-told .given .1)
 
 returns-4 : tie.Need-returns-4
 unfolding carriedFrame
-returns-4 c = simp (le-ltb _ _ (c .before .before .if1 .left), c .enum-told .given .1)
-
-returns-5 : tie.Need-returns-5
-unfolding carriedFrame
-returns-5 c = simp (le-ltb _ _ (c .before .before .before .before .before .before .if1 .left), c .before .before .before .before .proven .given .1, le-ltb _ _ (c .before .before .if2 .left), sym (c .before .heeded .ensures) ∙ c .if3 .left)
+returns-4 c =
+    let d = c .before .before .before in
+    simp (
+      le-ltb _ _ (d .before .before .if1 .left),
+      d .proven .given .1,
+      sym (c .before .heeded .ensures) ∙ c .if2
+          .left,
+    )
 
 pub carried-spec : {M : Type 1} → statement M
 carried-spec =
@@ -49,10 +63,10 @@ carried-spec =
     returns
     enum-told
     enum-known-proven
-    returns-2
     heeded-requires
-    add-shorter
-    shorter-requires
+    cast-frame
+    add-frame
+    min-u32-requires
+    returns-2
     returns-3
-    returns-4
-    returns-5)
+    returns-4)

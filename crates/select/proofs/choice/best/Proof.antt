@@ -17,7 +17,9 @@ in-place-requires : tie.Need-in-place-requires
 in-place-requires c κs = search needs
 
 returns-2 : tie.Need-returns-2
-returns-2 c = best-index (c .before .before .before .before .args .field) (sym (c .before .before .before .none .ensures) ∙ not-false _ (c .before .before .if1 .left)) (sym (c .before .in-place .ensures) ∙ not-true _ (c .if2 .taken))
+returns-2 c = best-index (c .before .before .before .before .args .field)
+    (sym (c .before .before .before .none .ensures) ∙ not-false _ (c .before .before .if1 .left))
+    (sym (c .before .in-place .ensures) ∙ not-true _ (c .if2 .taken))
 
 gate-of-requires : tie.Need-gate-of-requires
 gate-of-requires c κs = search needs
@@ -32,10 +34,20 @@ enum-told : tie.Need-enum-told
 enum-told c = search needs
 
 returns-3 : tie.Need-returns-3
-returns-3 c = best-score (c .before .before .before .before .before .before .before .before .before .args .field) (sym (c .before .before .before .before .before .before .before .before .none .ensures) ∙ not-false _ (c .before .before .before .before .before .before .before .if1 .left)) (sym (c .before .before .before .before .before .before .in-place .ensures) ∙ not-false _ (c .before .before .before .before .before .if2 .left)) (c .before .before .before .before .gate-of .ensures) (c .before .before .before .least .ensures) (c .before .r .given .1)
+returns-3 c = best-score (c .before .before .before .before .before .before .before .before .before .args .field)
+    (sym (c .before .before .before .before .before .before .before .before .none .ensures) ∙ not-false _
+    (c .before .before .before .before .before .before .before .if1 .left))
+    (sym (c .before .before .before .before .before .before .in-place .ensures) ∙ not-false _
+    (c .before .before .before .before .before .if2 .left)) (c .before .before .before .before .gate-of .ensures)
+    (c .before .before .before .least .ensures) (c .before .r .given .1)
 
 returns-4 : tie.Need-returns-4
-returns-4 c = best-score (c .before .before .before .before .before .before .before .before .args .field) (sym (c .before .before .before .before .before .before .before .none .ensures) ∙ not-false _ (c .before .before .before .before .before .before .if1 .left)) (sym (c .before .before .before .before .before .in-place .ensures) ∙ not-false _ (c .before .before .before .before .if2 .left)) (c .before .before .before .gate-of .ensures) (c .before .before .least .ensures) (c .enum-told .given .1)
+returns-4 c = best-score (c .before .before .before .before .before .before .before .before .args .field)
+    (sym (c .before .before .before .before .before .before .before .none .ensures) ∙ not-false _
+    (c .before .before .before .before .before .before .if1 .left))
+    (sym (c .before .before .before .before .before .in-place .ensures) ∙ not-false _
+    (c .before .before .before .before .if2 .left)) (c .before .before .before .gate-of .ensures)
+    (c .before .before .least .ensures) (c .enum-told .given .1)
 
 pub best-spec : {M : Type 1} → statement M
 best-spec =

@@ -40,13 +40,27 @@ least-requires-3 : tie.Need-least-requires-3
 least-requires-3 c κs = search needs
 
 returns : tie.Need-returns
-returns c = picked-preferred (c .before .before .before .before .before .before .before .before .before .before .before .args .field) (c .before .before .before .before .before .before .before .before .before .before .gate-of .ensures) (c .before .before .before .before .before .before .before .before .before .least .ensures) (c .before .before .before .before .before .before .before .before .before .before .before .args .margin) (c .before .before .before .before .before .before .before .first .given .1) (c .before .before .before .before .before .limit .ensures) (c .before .before .before .before .least2 .ensures) (c .before .before .second .given .1) refl (c .replaced .ensures)
+returns c = picked-preferred (c .before .before .before .before .before .before .before .before .before .before .before
+    .args .field) (c .before .before .before .before .before .before .before .before .before .before .gate-of .ensures)
+    (c .before .before .before .before .before .before .before .before .before .least .ensures)
+    (c .before .before .before .before .before .before .before .before .before .before .before .args .margin)
+    (c .before .before .before .before .before .before .before .first .given .1)
+    (c .before .before .before .before .before .limit .ensures) (c .before .before .before .before .least2 .ensures)
+    (c .before .before .second .given .1) refl (c .replaced .ensures)
 
 returns-2 : tie.Need-returns-2
-returns-2 c = picked-plain (c .before .before .before .before .before .before .before .before .before .before .args .field) (c .before .before .before .before .before .before .before .before .before .gate-of .ensures) (c .before .before .before .before .before .before .before .before .least .ensures) (c .before .before .before .before .before .before .before .before .before .before .args .margin) (c .before .before .before .before .before .before .first .given .1) (c .before .before .before .before .limit .ensures) (c .before .before .before .least2 .ensures) (c .before .enum-told .given .1) refl (c .replaced2 .ensures)
+returns-2 c = picked-plain (c .before .before .before .before .before .before .before .before .before .before .args
+    .field) (c .before .before .before .before .before .before .before .before .before .gate-of .ensures)
+    (c .before .before .before .before .before .before .before .before .least .ensures)
+    (c .before .before .before .before .before .before .before .before .before .before .args .margin)
+    (c .before .before .before .before .before .before .first .given .1)
+    (c .before .before .before .before .limit .ensures) (c .before .before .before .least2 .ensures)
+    (c .before .enum-told .given .1) refl (c .replaced2 .ensures)
 
 returns-3 : tie.Need-returns-3
-returns-3 c = picked-timed (c .before .before .before .before .before .args .field) (c .before .before .before .before .gate-of .ensures) (c .before .before .before .least .ensures) (c .before .before .before .before .before .args .margin) (c .before .enum-told2 .given .1) (c .least3 .ensures)
+returns-3 c = picked-timed (c .before .before .before .before .before .args .field)
+    (c .before .before .before .before .gate-of .ensures) (c .before .before .before .least .ensures)
+    (c .before .before .before .before .before .args .margin) (c .before .enum-told2 .given .1) (c .least3 .ensures)
 
 pub picked-spec : {M : Type 1} → statement M
 picked-spec =

@@ -1,6 +1,6 @@
 -- `select::gate::gate_of` meets its contract.
 -- Assumes nothing.
-use Rattle.select.specs.Scans.{gateOf}
+use Rattle.select.specs.Passes.{gateOf}
 use borrow.Author.Needs.{needs}
 use Rattle.select.proofs.gate.gate_of.Statement.{statement}
 use Rattle.select.proofs.gate.gate_of.Tie as tie

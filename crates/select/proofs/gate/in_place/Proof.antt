@@ -27,7 +27,8 @@ at-place-requires : tie.Need-at-place-requires Inv-loop μ-loop
 at-place-requires c κs = search needs
 
 returns : tie.Need-returns Inv-loop μ-loop
-returns c = placing-not _ (c .before .before .before .before .loop .inv) (search needs) (sym (c .before .at-place .ensures) ∙ not-true _ (c .if1 .taken))
+returns c = placing-not _ (c .before .before .before .before .loop .inv) (search needs)
+    (sym (c .before .at-place .ensures) ∙ not-true _ (c .if1 .taken))
 
 add-i : tie.Need-add-i Inv-loop μ-loop
 add-i c = search needs
@@ -36,7 +37,8 @@ loop-less : tie.Need-loop-less Inv-loop μ-loop
 loop-less c = search needs
 
 loop-again : tie.Need-loop-again Inv-loop μ-loop
-loop-again c = placing-next _ (c .before .before .before .before .loop .inv) (search needs) (sym (c .before .at-place .ensures) ∙ not-false _ (c .if1 .left))
+loop-again c = placing-next _ (c .before .before .before .before .loop .inv) (search needs)
+    (sym (c .before .at-place .ensures) ∙ not-false _ (c .if1 .left))
 
 returns-2 : tie.Need-returns-2 Inv-loop μ-loop
 returns-2 c = placing-end (c .before .loop .inv) (search needs)

@@ -4,7 +4,7 @@ use Prim.Native.Nat.{_-_}
 use mathlib.Core.Path.{ap, sym, _∙_}
 use mathlib.Core.Bool.{not}
 use Rattle.base.proofs.SeqLaws.{Passed, passed-start, passed-not, passed-next, passed-end}
-use Rattle.select.specs.Scans.{lacksOf}
+use Rattle.select.specs.Passes.{lacksOf}
 use borrow.Author.Needs.{needs}
 use Rattle.select.proofs.gate.none.Statement.{statement}
 use Rattle.select.proofs.gate.none.Tie as tie
@@ -28,7 +28,8 @@ asks-requires : tie.Need-asks-requires Inv-loop μ-loop
 asks-requires c κs = search needs
 
 returns : tie.Need-returns Inv-loop μ-loop
-returns c = passed-not _ (c .before .before .before .before .loop .inv) (search needs) (ap not (sym (c .before .asks .ensures) ∙ c .if1 .taken))
+returns c = passed-not _ (c .before .before .before .before .loop .inv) (search needs)
+    (ap not (sym (c .before .asks .ensures) ∙ c .if1 .taken))
 
 add-i : tie.Need-add-i Inv-loop μ-loop
 add-i c = search needs
@@ -37,7 +38,8 @@ loop-less : tie.Need-loop-less Inv-loop μ-loop
 loop-less c = search needs
 
 loop-again : tie.Need-loop-again Inv-loop μ-loop
-loop-again c = passed-next _ (c .before .before .before .before .loop .inv) (search needs) (ap not (sym (c .before .asks .ensures) ∙ c .if1 .left))
+loop-again c = passed-next _ (c .before .before .before .before .loop .inv) (search needs)
+    (ap not (sym (c .before .asks .ensures) ∙ c .if1 .left))
 
 returns-2 : tie.Need-returns-2 Inv-loop μ-loop
 returns-2 c = passed-end (c .before .loop .inv) (search needs)

@@ -3,7 +3,7 @@
 use Prim.Native.Nat.{_-_, max}
 use mathlib.Core.Path.{sym, _∙_}
 use Rattle.base.proofs.ScanLaws.{Folding, folding-start, folding-take, folding-skip, folding-end}
-use Rattle.select.specs.Scans.{isNamed}
+use Rattle.select.specs.Passes.{isNamed}
 use Rattle.select.specs.declared.types.Rival.{Rival}
 use borrow.Author.Needs.{needs}
 use Rattle.select.proofs.gate.top_tier.Statement.{statement}
@@ -30,20 +30,22 @@ add-i c = search needs
 named-requires : tie.Need-named-requires Inv-loop μ-loop
 named-requires c κs = search needs
 
-higher-requires : tie.Need-higher-requires Inv-loop μ-loop
-higher-requires c κs = search needs
+max-u8-requires : tie.Need-max-u8-requires Inv-loop μ-loop
+max-u8-requires c κs = search needs
 
 loop-less : tie.Need-loop-less Inv-loop μ-loop
 loop-less c = search needs
 
 loop-again : tie.Need-loop-again Inv-loop μ-loop
-loop-again c = folding-take _ (c .before .before .before .before .before .loop .inv) (search needs) (sym (c .before .before .named .ensures) ∙ c .before .if1 .taken) (c .higher .ensures)
+loop-again c = folding-take _ (c .before .before .before .before .before .loop .inv) (search needs)
+    (sym (c .before .before .named .ensures) ∙ c .before .if1 .taken) (c .max-u8 .ensures)
 
 loop-less-2 : tie.Need-loop-less-2 Inv-loop μ-loop
 loop-less-2 c = search needs
 
 loop-again-2 : tie.Need-loop-again-2 Inv-loop μ-loop
-loop-again-2 c = folding-skip _ (c .before .before .before .before .loop .inv) (search needs) (sym (c .before .named .ensures) ∙ c .if1 .left)
+loop-again-2 c = folding-skip _ (c .before .before .before .before .loop .inv) (search needs)
+    (sym (c .before .named .ensures) ∙ c .if1 .left)
 
 returns : tie.Need-returns Inv-loop μ-loop
 returns c = folding-end (c .before .loop .inv) (search needs)
@@ -59,7 +61,7 @@ top-tier-spec =
     array-copy-out-r
     add-i
     named-requires
-    higher-requires
+    max-u8-requires
     loop-less
     loop-again
     loop-less-2

@@ -18,11 +18,19 @@ stays-requires c κs = search needs
 
 returns-2 : tie.Need-returns-2
 unfolding heldOf
-returns-2 c = simp (sym (c .before .before .before .either-long .ensures) ∙ c .before .before .if1 .left, sym (c .before .stays .ensures) ∙ c .if2 .taken)
+returns-2 c = simp (
+  sym (c .before .before .before .either-long .ensures) ∙ c .before .before .if1 .left,
+  sym
+      (c .before .stays .ensures) ∙ c .if2 .taken,
+)
 
 returns-3 : tie.Need-returns-3
 unfolding heldOf
-returns-3 c = simp (sym (c .before .before .before .either-long .ensures) ∙ c .before .before .if1 .left, sym (c .before .stays .ensures) ∙ c .if2 .left)
+returns-3 c = simp (
+  sym (c .before .before .before .either-long .ensures) ∙ c .before .before .if1 .left,
+  sym
+      (c .before .stays .ensures) ∙ c .if2 .left,
+)
 
 pub held-spec : {M : Type 1} → statement M
 held-spec = tie.close (tie.spec either-long-requires returns stays-requires returns-2 returns-3)

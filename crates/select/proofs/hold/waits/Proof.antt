@@ -18,11 +18,19 @@ above-requires c κs = search needs
 
 returns-2 : tie.Need-returns-2
 unfolding waitsOf
-returns-2 c = simp (sym (c .before .before .before .either-long .ensures) ∙ c .before .before .if1 .left, sym (c .before .above .ensures) ∙ c .if2 .taken)
+returns-2 c = simp (
+  sym (c .before .before .before .either-long .ensures) ∙ c .before .before .if1 .left,
+  sym
+      (c .before .above .ensures) ∙ c .if2 .taken,
+)
 
 returns-3 : tie.Need-returns-3
 unfolding waitsOf
-returns-3 c = simp (sym (c .before .before .before .either-long .ensures) ∙ c .before .before .if1 .left, sym (c .before .above .ensures) ∙ c .if2 .left)
+returns-3 c = simp (
+  sym (c .before .before .before .either-long .ensures) ∙ c .before .before .if1 .left,
+  sym
+      (c .before .above .ensures) ∙ c .if2 .left,
+)
 
 pub waits-spec : {M : Type 1} → statement M
 waits-spec = tie.close (tie.spec either-long-requires returns above-requires returns-2 returns-3)

@@ -41,7 +41,12 @@ returns-2 : tie.Need-returns-2
 returns-2 c = simp (c .before .enum-told2 .given .1, c .by-score2 .ensures)
 
 returns-3 : tie.Need-returns-3
-returns-3 c = simp (c .before .before .before .enum-told3 .given .1, c .by-score3 .ensures, c .before .speed2 .ensures, c .before .before .speed .ensures)
+returns-3 c = simp (
+  c .before .before .before .enum-told3 .given .1,
+  c .by-score3 .ensures,
+  c .before .speed2 .ensures,
+  c .before .before .speed .ensures,
+)
 
 returns-4 : tie.Need-returns-4
 returns-4 c = simp (c .before .enum-told4 .given .1, c .by-trip .ensures)

@@ -11,7 +11,11 @@ trip-requires-2 : tie.Need-trip-requires-2
 trip-requires-2 c κs = search needs
 
 returns : tie.Need-returns
-returns c = rw (c .before .before .before .before .before .before .trip2 .ensures, c .before .before .before .before .before .before .before .trip .ensures)
+returns c = rw (
+  c .before .before .before .before .before .before .trip2 .ensures,
+  c .before .before .before .before
+      .before .before .before .trip .ensures,
+)
 
 pub by-trip-spec : {M : Type 1} → statement M
 by-trip-spec = tie.close (tie.spec trip-requires trip-requires-2 returns)

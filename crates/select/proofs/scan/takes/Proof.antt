@@ -38,7 +38,12 @@ returns-2 : tie.Need-returns-2
 returns-2 c = simp (c .before .before .before .before .before .w2 .given .1, c .before .before .before .ranks2 .ensures)
 
 returns-3 : tie.Need-returns-3
-returns-3 c = simp (c .before .before .before .before .before .before .w3 .given .1, c .before .before .before .before .ranks3 .ensures, c .quicker .ensures)
+returns-3 c = simp (
+  c .before .before .before .before .before .before .w3 .given .1,
+  c .before .before .before .before
+      .ranks3 .ensures,
+  c .quicker .ensures,
+)
 
 returns-4 : tie.Need-returns-4
 returns-4 c = simp (c .before .before .w4 .given .1, c .ranks4 .ensures)

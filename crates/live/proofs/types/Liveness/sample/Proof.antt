@@ -1,8 +1,7 @@
 -- `live::types::Liveness::sample` meets its contract.
 -- Assumes nothing.
 use Rattle.live.specs.Times.{sampleOf}
-use borrow.Author.Tests.{lt-ltb, le-ltb, le-leb, lt-leb}
-use mathlib.Core.Path.{refl}
+use borrow.Author.Tests.{le-leb, lt-leb}
 use borrow.Author.Needs.{needs}
 use Rattle.live.proofs.types.Liveness.sample.Statement.{statement}
 use Rattle.live.proofs.types.Liveness.sample.Tie as tie

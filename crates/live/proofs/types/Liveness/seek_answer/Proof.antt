@@ -1,8 +1,8 @@
 -- `live::types::Liveness::seek_answer` meets its contract.
 -- Assumes nothing.
 use Rattle.live.specs.Search.{seekAnswerOf}
-use borrow.Author.Tests.{lt-ltb, le-ltb, le-leb, lt-leb}
-use mathlib.Core.Path.{refl, sym}
+use borrow.Author.Tests.{le-leb, lt-leb}
+use mathlib.Core.Path.{sym}
 use borrow.Author.Needs.{needs}
 use Rattle.live.proofs.types.Liveness.seek_answer.Statement.{statement}
 use Rattle.live.proofs.types.Liveness.seek_answer.Tie as tie

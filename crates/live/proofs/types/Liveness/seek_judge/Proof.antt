@@ -1,8 +1,7 @@
 -- `live::types::Liveness::seek_judge` meets its contract.
 -- Assumes nothing.
 use Rattle.live.specs.Search.{seekJudgeOf}
-use borrow.Author.Tests.{lt-ltb, le-ltb, le-leb, lt-leb}
-use mathlib.Core.Path.{refl}
+use borrow.Author.Tests.{le-leb, lt-leb}
 use borrow.Author.Needs.{needs}
 use Rattle.live.proofs.types.Liveness.seek_judge.Statement.{statement}
 use Rattle.live.proofs.types.Liveness.seek_judge.Tie as tie

@@ -2,7 +2,7 @@
 -- Assumes nothing.
 use borrow.Author.Needs.{needs}
 use borrow.Author.Tests.{lt-ltb, le-ltb, le-leb, lt-leb}
-use mathlib.Core.Path.{refl, sym}
+use mathlib.Core.Path.{sym}
 use Rattle.live.specs.Search.{seekRingOf}
 use Rattle.live.proofs.types.Liveness.seek_ring.Statement.{statement}
 use Rattle.live.proofs.types.Liveness.seek_ring.Tie as tie

@@ -1,8 +1,7 @@
 -- `live::types::Liveness::seek_send` meets its contract.
 -- Assumes nothing.
 use Rattle.live.specs.Search.{seekSendOf}
-use borrow.Author.Tests.{lt-ltb, le-ltb, le-leb, lt-leb}
-use mathlib.Core.Path.{refl}
+use borrow.Author.Tests.{lt-ltb, le-ltb}
 use borrow.Author.Needs.{needs}
 use Rattle.live.proofs.types.Liveness.seek_send.Statement.{statement}
 use Rattle.live.proofs.types.Liveness.seek_send.Tie as tie

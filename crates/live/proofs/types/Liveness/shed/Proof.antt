@@ -1,7 +1,6 @@
 -- `live::types::Liveness::shed` meets its contract.
 -- Assumes nothing.
-use borrow.Author.Tests.{lt-ltb, le-ltb, le-leb, lt-leb}
-use mathlib.Core.Path.{refl, sym}
+use borrow.Author.Tests.{lt-ltb, le-ltb}
 use Rattle.live.proofs.TrafficLaws.{less-is}
 use Rattle.live.specs.Times.{shedOf}
 use borrow.Author.Needs.{needs}

@@ -1,7 +1,7 @@
 -- `live::types::Liveness::size` meets its contract.
 -- Assumes nothing.
 use Rattle.live.specs.Search.{sizeOf}
-use borrow.Author.Tests.{lt-ltb, le-ltb, le-leb, lt-leb}
+use borrow.Author.Tests.{lt-ltb, le-ltb}
 use mathlib.Core.Path.{refl}
 use borrow.Author.Needs.{needs}
 use Rattle.live.proofs.types.Liveness.size.Statement.{statement}

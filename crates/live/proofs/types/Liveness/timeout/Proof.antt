@@ -1,7 +1,7 @@
 -- `live::types::Liveness::timeout` meets its contract.
 -- Assumes nothing.
 use Rattle.live.specs.Times.{timeoutOf}
-use borrow.Author.Tests.{lt-ltb, le-ltb, le-leb, lt-leb}
+use borrow.Author.Tests.{le-leb, lt-leb}
 use mathlib.Core.Path.{refl}
 use borrow.Author.Needs.{needs}
 use Rattle.live.proofs.types.Liveness.timeout.Statement.{statement}

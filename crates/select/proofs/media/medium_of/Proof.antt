@@ -1,9 +1,8 @@
--- `fields::medium_of` meets its contract.
+-- `select::media::medium_of` meets its contract.
 -- Assumes nothing.
-use borrow.Author.Needs.{needs}
 use borrow.Author.Tests.{ne-eqb}
-use Rattle.fields.proofs.medium_of.Statement.{statement}
-use Rattle.fields.proofs.medium_of.Tie as tie
+use Rattle.select.proofs.media.medium_of.Statement.{statement}
+use Rattle.select.proofs.media.medium_of.Tie as tie
 
 returns : tie.Need-returns
 returns c = rw (c .match .keys1)
@@ -15,7 +14,12 @@ returns-3 : tie.Need-returns-3
 returns-3 c = rw (c .match .keys3)
 
 returns-4 : tie.Need-returns-4
-returns-4 c = rw (ne-eqb _ _ (c .match .rest .0 .0 .1), ne-eqb _ _ (c .match .rest .0 .1), ne-eqb _ _ (c .match .rest .1))
+returns-4 c = rw (
+  ne-eqb _ _ (c .match .rest .0 .0 .1),
+  ne-eqb _ _ (c .match .rest .0 .1),
+  ne-eqb _ _
+      (c .match .rest .1),
+)
 
 pub medium-of-spec : {M : Type 1} → statement M
 medium-of-spec = tie.close (tie.spec returns returns-2 returns-3 returns-4)

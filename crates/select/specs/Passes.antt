@@ -1,21 +1,23 @@
--- What the code's scans over a whole field ask of one rival: the tests of document 01's "Choice" in one, proved in
--- proofs/ChoiceLaws.antt to keep what the lists of specs/Choice.antt keep.
+-- For the proofs of the code's passes; no contract of a function that another crate calls cites it. A pass over a whole
+-- field asks the tests of document 01's "Choice" of each rival at once: proofs/RankLaws.antt proves that it keeps what
+-- the lists of specs/Choice.antt keep.
 use Prim.Native.Nat.{ℕ, max}
-use mathlib.Core.Bool.{Bool, true, false, not, _&&_, _||_}
+use mathlib.Core.Bool.{Bool, not, cond, _&&_, _||_}
 use mathlib.Core.List.{List, map, foldl}
 use lib.Dec.{eqb}
 use lib.Ieee.{le}
 use Rattle.base.specs.Seq.{every, keep}
 use Rattle.select.specs.Media.{quickerOf}
 use Rattle.select.specs.Rivals.{isLong, byScore, byMedium, byTrip}
-use Rattle.select.specs.Choice.{betterOf, firstBy}
+use Rattle.select.specs.Choice.{firstBy}
 use Rattle.select.specs.declared.types.Rival.{Rival}
 use Rattle.select.specs.declared.types.MaybeRival.{MaybeRival}
-use Rattle.select.specs.declared.types.Gate.{Gate}
-use Rattle.select.specs.declared.types.Test.{Test}
-use Rattle.select.specs.declared.types.Test.the-variants as test
-use Rattle.select.specs.declared.types.Want.{Want}
-use Rattle.select.specs.declared.types.Want.the-variants as want
+use Rattle.select.specs.declared.types.MaybeRival.the-variants.{None, Some}
+use Rattle.select.specs.declared.passes.Gate.{Gate}
+use Rattle.select.specs.declared.passes.Test.{Test}
+use Rattle.select.specs.declared.passes.Test.the-variants as test
+use Rattle.select.specs.declared.passes.Want.{Want}
+use Rattle.select.specs.declared.passes.Want.the-variants as want
 
 -- a rival that the pins leave, where `pinned` says that there is one
 abbrev pub isNamed : Bool → Rival → Bool
@@ -64,10 +66,15 @@ beforeOf (want.Preferred g limit) = byScore
 beforeOf (want.Quicker g limit only m) = byMedium
 beforeOf (want.Timed g) = byTrip
 
+-- the better of what there is and one more
+abbrev pub betterOf : (Rival → Rival → Bool) → MaybeRival → Rival → MaybeRival
+betterOf before None r = Some r
+betterOf before (Some a) r = cond (before r a) (Some r) (Some a)
+
 -- the better of what a scan has found and one more
 abbrev pub betterIn : Want → MaybeRival → Rival → MaybeRival
 betterIn w f r = betterOf (beforeOf w) f r
 
 -- what a scan finds
-abbrev pub scanOf : Want → List Rival → MaybeRival
-scanOf w l = firstBy (beforeOf w) (keep (takesOf w) l)
+abbrev pub firstTaken : Want → List Rival → MaybeRival
+firstTaken w l = firstBy (beforeOf w) (keep (takesOf w) l)

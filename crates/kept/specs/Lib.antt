@@ -1,0 +1,2 @@
+-- What every path keeps, whatever is called on it.
+pub mod Kept
