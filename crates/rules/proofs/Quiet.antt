@@ -6,7 +6,7 @@ use mathlib.Core.Path.{_≡_, refl, ap, _∙_}
 use mathlib.Core.List.{[], _∷_}
 use native.Mathlib.Omega.{arith}
 use lib.Dec.{leb, ltb}
-use lib.ListN.{length, length-map}
+use lib.ListN.{length, length-map, set}
 use borrow.Author.Tests.{ltb-false}
 use Rattle.base.proofs.Cases.{cond-cases}
 use Rattle.base.specs.Limits.{maxLen, isOverlong, isUndersize, isEndless}
@@ -16,11 +16,13 @@ use Rattle.base.specs.declared.types.MaybeId.{MaybeId}
 use Rattle.base.specs.declared.types.MaybeId.the-variants as mid
 use Rattle.base.proofs.BookLaws.{holds-kept}
 use Rattle.ring.specs.Ring.{noSent, isUsed, outstandingOf, firstFree, allCount}
-use Rattle.ring.specs.Ids.{takenOf}
+use Rattle.ring.specs.Ids.{takenOf, nextIds}
 use Rattle.ring.specs.declared.types.Ids.{Ids}
 use Rattle.seek.specs.declared.types.Sizes.{Sizes}
-use Rattle.live.specs.Path.{withTraffic}
-use Rattle.live.specs.Probe.{sendOf, sentAt}
+use Rattle.live.specs.Path.{withRing, withIds, withLadder, withSilence, withTraffic}
+use Rattle.live.specs.Probe.{sendOf, newSent, sentLadder}
+use Rattle.live.specs.declared.types.Answer.the-variants as answer
+use Rattle.stop.specs.Silence.{quietFrom}
 use Rattle.live.specs.Times as times
 use Rattle.live.specs.declared.types.Traffic.{Traffic}
 use Rattle.live.specs.declared.types.Outcome.{Outcome}
@@ -151,14 +153,23 @@ module _ (t : Settings) (s : Slot) (b₀ : Book) where
 
     -- ---- probe
 
+    -- the probe sent with the identifiers m, whatever became of `since`
+    abbrev sentBy : Ids → Outcome
+    sentBy m =
+        let v : ℕ = takenOf (m .«next_id») (e₀ .id) in
+        record {
+          path =
+              withRing
+              (withIds (withLadder (withSilence p (quietFrom (p .silence) now)) (sentLadder (p .ladder) size)) (nextIds m v))
+              (set (p .ring) (firstFree (p .ring)) (newSent v now (e₀ .span) size));
+          answer = answer.Id v;
+        }
+
     abbrev idsWith : MaybeId → Ids
     idsWith since =
         record { «next_id» = p .ids .«next_id»; answered = p .ids .answered; epoch = p .ids .epoch; since = since }
 
-    -- whatever becomes of `since`
-    sent-kept : (since : MaybeId) → leb 8 (firstFree (p .ring)) ≡ false
-        → N 2 (turnBy s (sentAt p (firstFree (p .ring)) (idsWith since) (takenOf (p .ids .«next_id») (e₀ .id)) now
-        (e₀ .span) size))
+    sent-kept : (since : MaybeId) → leb 8 (firstFree (p .ring)) ≡ false → N 2 (turnBy s (sentBy (idsWith since)))
     unfolding noted
     sent-kept since f few =
         record {
@@ -175,8 +186,6 @@ module _ (t : Settings) (s : Slot) (b₀ : Book) where
         cond-cases (λ (x : Outcome). N 2 (turnBy s x)) (isOverlong size) _ _ (λ f. no 2 refusal.Length)
         (λ f. cond-cases (λ (x : Outcome). N 2 (turnBy s x)) (leb 8 (firstFree (p .ring))) _ _ (λ g. no 2 refusal.Full)
         (λ g.
-        cond-cases (λ (m : Ids). N 2
-        (turnBy s (sentAt p (firstFree (p .ring)) m (takenOf (m .«next_id») (e₀ .id)) now (e₀ .span) size)))
-        (allCount (p .ids .since) (p .ring)) _ _
+        cond-cases (λ (m : Ids). N 2 (turnBy s (sentBy m))) (allCount (p .ids .since) (p .ring)) _ _
         (λ k. sent-kept mid.None g)
         (λ k. sent-kept (p .ids .since) g)))
