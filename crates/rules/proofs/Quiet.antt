@@ -153,18 +153,6 @@ module _ (t : Settings) (s : Slot) (b₀ : Book) where
 
     -- ---- probe
 
-    -- the probe sent with the identifiers m, whatever became of `since`
-    abbrev sentBy : Ids → Outcome
-    sentBy m =
-        let v : ℕ = takenOf (m .«next_id») (e₀ .id) in
-        record {
-          path =
-              withRing
-              (withIds (withLadder (withSilence p (quietFrom (p .silence) now)) (sentLadder (p .ladder) size)) (nextIds m v))
-              (set (p .ring) (firstFree (p .ring)) (newSent v now (e₀ .span) size));
-          answer = answer.Id v;
-        }
-
     abbrev idsWith : MaybeId → Ids
     idsWith since =
         record { «next_id» = p .ids .«next_id»; answered = p .ids .answered; epoch = p .ids .epoch; since = since }

@@ -44,8 +44,6 @@ slotAt r i = getD (r .slots) i emptySlot
 abbrev pub put : Record → ℕ → Turn → Stepped
 put r i t = record { next = record { settings = r .settings; slots = set (r .slots) i (t .slot) }; reply = t .reply }
 
--- ---- choose
-
 -- a slot as a rival, under its number
 abbrev pub rivalOf : ℕ → Slot → Rival
 rivalOf i s =
@@ -93,8 +91,6 @@ choiceOf r e =
       reply = cond (isMargin (marginOf e))
           (choiceReply (pickedOf (rivalsAt 0 (r .slots)) (marginOf e))) (reply.Refused refusal.Margin);
     }
-
--- ---- events
 
 -- one event: "Choose reads no slot"; all others do their work on one
 unfoldable pub step : Record → Event → Stepped
