@@ -1,6 +1,6 @@
 -- What the books hold after some of the examples; and that demand 3 holds of each of them.
 -- Assumes nothing.
-use Prim.Native.Nat.{ℕ, _<_, _^_}
+use Prim.Native.Nat.{_<_, _^_}
 use mathlib.Core.Bool.{true}
 use mathlib.Core.Path.{_≡_, refl}
 use mathlib.Core.List.{List, [], _∷_}
@@ -9,12 +9,12 @@ use lib.ListN.{length}
 use Rattle.base.specs.declared.types.Refusal.the-variants as refusal
 use Rattle.rules.specs.Answers.{Sample, answers}
 use Rattle.rules.specs.Step.{allowed, recordOf}
-use Rattle.rules.specs.Book.{Book, Acked, Lost, Proved, noted}
+use Rattle.rules.specs.Book.{Book, Lost, Proved, noted}
 use Rattle.rules.specs.Demand3.{Every, Carries, FewDraws, bookAfter, Demand3}
 use Rattle.rules.specs.declared.types.Reply.the-variants as reply
 use Rattle.rules.proofs.Premise.{few-draws}
 use Rattle.rules.proofs.Whole.{demand3}
-use Rattle.examples.specs.Lists.{second, first, refused, eight, ordered, defers, lastData, overdue, thawed, reopened, proposals, acknowledged, twelve, upTo131, judges, tiers, lowest, scored, equal, examples}
+use Rattle.examples.specs.Lists.{first, eachRefused, eight, ordered, defers, lastData, overdue, thawed, reopened, proposals, acknowledged, twelve, upTo131, judges, tiers, lowest, byScores, equal, examples}
 use Rattle.base.specs.declared.types.MaybeLen.the-variants as len
 
 abbrev bookOf : Sample → Book
@@ -70,7 +70,7 @@ every-holds [] h = tt
 every-holds (s ∷ l) h = (holds s (h .0), every-holds l (h .1))
 
 short : Every Short examples
-unfolding first refused eight ordered defers lastData overdue thawed reopened proposals acknowledged twelve upTo131 judges tiers lowest scored equal
+unfolding first eachRefused eight ordered defers lastData overdue thawed reopened proposals acknowledged twelve upTo131 judges tiers lowest byScores equal
 short = (
   (omega arith, refl),
   (

@@ -2,14 +2,14 @@
 -- Assumes nothing.
 use mathlib.Core.Path.{refl}
 use Rattle.rules.specs.Answers.{Right, AllRight, answers}
-use Rattle.examples.specs.Lists.{first, refused, eight, ordered, defers, lastData, overdue, thawed, reopened, proposals, acknowledged, twelve, upTo131, judges, tiers, lowest, scored, equal, examples}
+use Rattle.examples.specs.Lists.{first, eachRefused, eight, ordered, defers, lastData, overdue, thawed, reopened, proposals, acknowledged, twelve, upTo131, judges, tiers, lowest, byScores, equal, examples}
 
 right-first : Right first
 unfolding answers first
 right-first = refl
 
-right-refused : Right refused
-unfolding answers refused
+right-refused : Right eachRefused
+unfolding answers eachRefused
 right-refused = refl
 
 right-eight : Right eight
@@ -68,8 +68,8 @@ right-lowest : Right lowest
 unfolding answers lowest
 right-lowest = refl
 
-right-scored : Right scored
-unfolding answers scored
+right-scored : Right byScores
+unfolding answers byScores
 right-scored = refl
 
 right-equal : Right equal

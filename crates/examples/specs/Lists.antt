@@ -43,8 +43,8 @@ thaw = event 12 0 0 0 0 0 0 0
 abbrev pub sweep : Event
 sweep = event 13 0 0 0 0 0 0 0
 
-abbrev pub closes : ℕ → Event
-closes slot = event 14 slot 0 0 0 0 0 0
+abbrev pub closing : ℕ → Event
+closing slot = event 14 slot 0 0 0 0 0 0
 
 -- "Choose reads no slot"
 abbrev pub choose : ℕ → Event
@@ -64,30 +64,30 @@ capped cap = settings cap 1000000000 1000000000 1000000000
 abbrev pub half : ℕ
 half = 0x3fe0_0000_0000_0000
 
-abbrev pub one : ℕ
-one = 0x3ff0_0000_0000_0000
+abbrev pub marginOne : ℕ
+marginOne = 0x3ff0_0000_0000_0000
 
-abbrev pub hundred : ℕ
-hundred = 0x4059_0000_0000_0000
+abbrev pub marginHundred : ℕ
+marginHundred = 0x4059_0000_0000_0000
 
 -- ---- document 01, "Files and tail"
 unfoldable pub first : Sample
 first =
     record {
       settings = second;
-      events = opens 0 100 32 ∷ probe 0 9 7 ∷ answer 0 7 0 ∷ answer 0 7 0 ∷ choose one ∷ [];
+      events = opens 0 100 32 ∷ probe 0 9 7 ∷ answer 0 7 0 ∷ answer 0 7 0 ∷ choose marginOne ∷ [];
       given = (0, 0) ∷ (0, 7) ∷ (0, 1) ∷ (9, 0) ∷ (0, 0) ∷ [];
     }
 
 -- ---- the table of refusals, each number that the record gives once: 1, 2, 3, 4, 5, 6, 7, 9, 10, 15 and, after a
 -- close, 11
-unfoldable pub refused : Sample
-refused =
+unfoldable pub eachRefused : Sample
+eachRefused =
     record {
       settings = second;
       events =
           event 2 8 0 0 0 0 0 0 ∷
-          closes 0 ∷
+          closing 0 ∷
           opens 0 100 0 ∷
           opens 0 100 0 ∷
           poll 0 2 ∷
@@ -97,8 +97,8 @@ refused =
           answer 0 5 0 ∷
           seeks 0 ∷
           event 16 0 0 0 0 0 0 0 ∷
-          closes 0 ∷
-          choose one ∷
+          closing 0 ∷
+          choose marginOne ∷
           [];
       given =
           (1, 0) ∷ (2, 0) ∷ (0, 0) ∷ (3, 0) ∷ (4, 0) ∷ (5, 0) ∷ (6, 0) ∷ (7, 0) ∷ (9, 0) ∷ (10, 0) ∷ (15, 0) ∷ (0, 0)
@@ -106,9 +106,9 @@ refused =
     }
 
 -- n probes at 0, due at 5
-abbrev pub probes : ℕ → List Event
-probes zero = []
-probes (suc n) = probe 0 5 7 ∷ probes n
+abbrev pub someProbes : ℕ → List Event
+someProbes zero = []
+someProbes (suc n) = probe 0 5 7 ∷ someProbes n
 
 -- 8: a ninth probe, though its size is refused first (5); a poll takes all eight; the last four are answered late, once
 unfoldable pub eight : Sample
@@ -116,7 +116,7 @@ eight =
     record {
       settings = second;
       events =
-          opens 0 100 0 ∷ probes 9 ++ (
+          opens 0 100 0 ∷ someProbes 9 ++ (
           event 2 0 0 5 7 65536 0 0 ∷ poll 5 1 ∷ poll 5 0 ∷ answer 9 10 0 ∷ answer 9 11 0 ∷ answer 9 14 0 ∷ answer 9 14
           0 ∷ []);
       given =
@@ -129,7 +129,7 @@ unfoldable pub ordered : Sample
 ordered =
     record {
       settings = second;
-      events = event 16 8 0 0 0 0 0 0 ∷ opens 8 26 128 ∷ closes 8 ∷ opens 0 26 128 ∷ opens 0 27 127 ∷ opens 0 26 128
+      events = event 16 8 0 0 0 0 0 0 ∷ opens 8 26 128 ∷ closing 8 ∷ opens 0 26 128 ∷ opens 0 27 127 ∷ opens 0 26 128
           ∷ [];
       given = (15, 0) ∷ (1, 0) ∷ (1, 0) ∷ (4, 0) ∷ (0, 0) ∷ (3, 0) ∷ [];
     }
@@ -179,7 +179,7 @@ unfoldable pub reopened : Sample
 reopened =
     record {
       settings = second;
-      events = opens 0 100 0 ∷ probe 0 9 7 ∷ answer 0 7 0 ∷ closes 0 ∷ opens 0 100 0 ∷ probe 0 9 7 ∷ answer 0 7 0 ∷ [];
+      events = opens 0 100 0 ∷ probe 0 9 7 ∷ answer 0 7 0 ∷ closing 0 ∷ opens 0 100 0 ∷ probe 0 9 7 ∷ answer 0 7 0 ∷ [];
       given = (0, 0) ∷ (0, 7) ∷ (0, 1) ∷ (0, 0) ∷ (0, 0) ∷ (0, 7) ∷ (0, 1) ∷ [];
     }
 
@@ -258,8 +258,8 @@ tiers =
     record {
       settings = second;
       events =
-          opens 0 100 8 ∷ opens 1 100 16 ∷ choose one ∷ opens 2 100 48 ∷ choose one ∷ opens 3 100 20 ∷ choose one ∷
-          closes 3 ∷ closes 2 ∷ closes 1 ∷ choose one ∷ [];
+          opens 0 100 8 ∷ opens 1 100 16 ∷ choose marginOne ∷ opens 2 100 48 ∷ choose marginOne ∷ opens 3 100 20 ∷ choose marginOne ∷
+          closing 3 ∷ closing 2 ∷ closing 1 ∷ choose marginOne ∷ [];
       given =
           (0, 0) ∷ (0, 0) ∷ (0, 1) ∷ (0, 0) ∷ (0, 2) ∷ (0, 0) ∷ (0, 3) ∷ (0, 0) ∷ (0, 0) ∷ (0, 0) ∷ (0, 0) ∷ [];
     }
@@ -269,16 +269,16 @@ unfoldable pub lowest : Sample
 lowest =
     record {
       settings = second;
-      events = opens 5 27 0 ∷ choose one ∷ closes 5 ∷ choose one ∷ [];
+      events = opens 5 27 0 ∷ choose marginOne ∷ closing 5 ∷ choose marginOne ∷ [];
       given = (0, 0) ∷ (0, 5) ∷ (0, 0) ∷ (11, 0) ∷ [];
     }
 
 -- a quicker medium so near: wired at 10 ms before BLE at 5 ms with margin 100, not with 1
-unfoldable pub scored : Sample
-scored =
+unfoldable pub byScores : Sample
+byScores =
     record {
       settings = second;
-      events = opens 0 100 1 ∷ opens 1 100 0 ∷ sample 0 10000000 ∷ sample 1 5000000 ∷ choose hundred ∷ choose one ∷ [];
+      events = opens 0 100 1 ∷ opens 1 100 0 ∷ sample 0 10000000 ∷ sample 1 5000000 ∷ choose marginHundred ∷ choose marginOne ∷ [];
       given = (0, 0) ∷ (0, 0) ∷ (0, 0) ∷ (0, 0) ∷ (0, 0) ∷ (0, 1) ∷ [];
     }
 
@@ -287,12 +287,12 @@ unfoldable pub equal : Sample
 equal =
     record {
       settings = second;
-      events = opens 0 100 0 ∷ opens 1 100 0 ∷ sample 0 5000000 ∷ sample 1 5000000 ∷ choose one ∷ [];
+      events = opens 0 100 0 ∷ opens 1 100 0 ∷ sample 0 5000000 ∷ sample 1 5000000 ∷ choose marginOne ∷ [];
       given = (0, 0) ∷ (0, 0) ∷ (0, 0) ∷ (0, 0) ∷ (0, 0) ∷ [];
     }
 
 abbrev pub examples : List Sample
 examples =
-    first ∷ refused ∷ eight ∷ ordered ∷ defers ∷ lastData ∷ overdue ∷ thawed ∷ reopened ∷ proposals ∷ acknowledged
+    first ∷ eachRefused ∷ eight ∷ ordered ∷ defers ∷ lastData ∷ overdue ∷ thawed ∷ reopened ∷ proposals ∷ acknowledged
     ∷ twelve ∷ upTo131 ∷
-    judges ∷ tiers ∷ lowest ∷ scored ∷ equal ∷ []
+    judges ∷ tiers ∷ lowest ∷ byScores ∷ equal ∷ []

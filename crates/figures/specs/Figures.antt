@@ -10,7 +10,7 @@ use Rattle.live.specs.New.{newLiveness}
 use Rattle.live.specs.Answers.{answerValue}
 use Rattle.live.specs.Search.{seekSizeOf}
 use Rattle.live.specs.Times.{timeoutOf, spentOf}
-use Rattle.figures.specs.Paths.{millis, lapsed, nextSize, nextSizes, proven, fullLost, restOf, probes, sampled}
+use Rattle.figures.specs.Paths.{millis, afterLapse, nextSize, nextSizes, proven, fullLost, restOf, probeCount, sampled}
 use Rattle.figures.specs.Paths.{spanCount, halted, gapOf}
 
 -- the numbers of each figure, computed
@@ -27,13 +27,13 @@ figures =
     -- (5) full 1,200: 1,200, 900, 600, 27, 1,200
     nextSizes 5 newLiveness 1200 ∷
     -- (6) full 40, last 30: 27
-    (nextSize (lapsed newLiveness 30) 40 ∷ []) ∷
+    (nextSize (afterLapse newLiveness 30) 40 ∷ []) ∷
     -- (7) proven 100, full 132 lost: rest
     restOf (fullLost 100 132) 132 ∷
     -- (8) full 133 lost: 116 next
     (answerValue (seekSizeOf (fullLost 100 133) 133 0) ∷ []) ∷
     -- (9) proven 27, full 65,535 lost, the rest acknowledged: 12 probes
-    (probes 20 (proven 27) 65535 ∷ []) ∷
+    (probeCount 20 (proven 27) 65535 ∷ []) ∷
     -- (10) floor 400, last 100, largest 300, cap 600 ms: 600
     (answerValue (timeoutOf (sampled 0) (millis 400) (millis 600)) ∷ []) ∷
     -- (11) horizon 60 s: a sample 10 s on opens a span (1 ns earlier it joins the first)

@@ -25,8 +25,8 @@ millis n = n * 10 ^ 6
 -- ---- sizes
 
 -- a probe of n bytes was sent and has lapsed: n is the last size, and above 27 the path has fallen
-abbrev pub lapsed : Liveness → ℕ → Liveness
-lapsed p n = expireOf (sendOf p 0 0 n 0 .path) 0 false 0 .path
+abbrev pub afterLapse : Liveness → ℕ → Liveness
+afterLapse p n = expireOf (sendOf p 0 0 n 0 .path) 0 false 0 .path
 
 -- what `size` gives
 abbrev pub nextSize : Liveness → ℕ → ℕ
@@ -35,7 +35,7 @@ nextSize p full = answerValue (sizeOf p full)
 -- the sizes of the next n probes, where each has the size that `size` gives and lapses
 abbrev pub nextSizes : ℕ → Liveness → ℕ → List ℕ
 nextSizes zero p full = []
-nextSizes (suc n) p full = nextSize p full ∷ nextSizes n (lapsed p (nextSize p full)) full
+nextSizes (suc n) p full = nextSize p full ∷ nextSizes n (afterLapse p (nextSize p full)) full
 
 -- ---- size search
 
@@ -44,8 +44,8 @@ abbrev pub proven : ℕ → Liveness
 proven n = proveOf newLiveness n .path
 
 -- a search probe of the size proposed is out
-abbrev pub searched : Liveness → ℕ → Liveness
-searched p full = seekSendOf p 0 (answerValue (seekSizeOf p full 0)) 0 .path
+abbrev pub afterSearch : Liveness → ℕ → Liveness
+afterSearch p full = seekSendOf p 0 (answerValue (seekSizeOf p full 0)) 0 .path
 
 -- the search probe that is out is judged lost, once a probe sent after it is answered
 abbrev pub lost : Liveness → Liveness
@@ -53,7 +53,7 @@ lost p = seekJudgeOf (answerOf (sendOf p 0 0 27 0 .path) (answerValue (sendOf p 
 
 -- "proven .., full .. lost"
 abbrev pub fullLost : ℕ → ℕ → Liveness
-fullLost n full = lost (searched (proven n) full)
+fullLost n full = lost (afterSearch (proven n) full)
 
 -- the size of the search probe that is out, 0 if none is
 abbrev pub sizeOut : Liveness → ℕ
@@ -74,13 +74,13 @@ abbrev pub acked : Liveness → Liveness
 acked p = seekProvedOf (seekAnswerOf p (p .sizes .seek .«probe_id») 0 .path) (sizeOut p) (sizeOut p) 0 .path
 
 -- "full .. lost, the rest acknowledged"
-abbrev pub settled : Liveness → ℕ → Liveness
-settled p full = cond (eqb (sizeOut p) full) (lost p) (acked p)
+abbrev pub afterSettling : Liveness → ℕ → Liveness
+afterSettling p full = cond (eqb (sizeOut p) full) (lost p) (acked p)
 
 -- how many search probes are sent, at most n, until no size is proposed
-abbrev pub probes : ℕ → Liveness → ℕ → ℕ
-probes zero p full = 0
-probes (suc n) p full = cond (isAccepted (seekSizeOf p full 0)) (suc (probes n (settled (searched p full) full) full)) 0
+abbrev pub probeCount : ℕ → Liveness → ℕ → ℕ
+probeCount zero p full = 0
+probeCount (suc n) p full = cond (isAccepted (seekSizeOf p full 0)) (suc (probeCount n (afterSettling (afterSearch p full) full) full)) 0
 
 -- ---- RTT and stop
 

@@ -1,10 +1,9 @@
 -- The smallest moves on which the claim could break, computed: each is named for the edit in must-fail/ that breaks it.
 -- Assumes nothing.
-use Prim.Native.Nat.{ℕ}
-use mathlib.Core.List.{List, [], _∷_}
+use mathlib.Core.List.{[], _∷_}
 use mathlib.Core.Path.{_≡_, refl}
 use Rattle.seek.specs.Rules.{proposalOf}
-use Rattle.halving.specs.Need.{halvings, need, left}
+use Rattle.halving.specs.Need.{need, left}
 use Rattle.halving.specs.Moves.{Send, Judge, Prove, opened, moves}
 
 -- full 60, 27 proven, none lost: 60 itself, and 43 after its loss

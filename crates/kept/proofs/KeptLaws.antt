@@ -1,25 +1,24 @@
 -- Each method keeps what is kept of a path, whatever its numbers; and so do any calls one after the other.
 -- Assumes nothing.
-use Prim.Native.Nat.{ℕ, _+_, _<_, _≤_}
-use mathlib.Core.Path.{_≡_, refl, ap, _∙_}
-use mathlib.Core.Bool.{Bool, true, false, not, _&&_}
-use mathlib.Core.List.{List, [], _∷_, _++_, foldl}
+use Prim.Native.Nat.{ℕ, _+_}
+use mathlib.Core.Path.{_≡_, refl, _∙_}
+use mathlib.Core.Bool.{Bool, true, not, _&&_}
+use mathlib.Core.List.{List, [], _∷_, foldl}
 use native.Mathlib.Omega.{arith}
 use borrow.Author.Tests.{ltb-false, leb-false}
 use lib.Dec.{leb, ltb, eqb}
-use lib.ListN.{length, getD, set, replicate, length-set}
+use lib.ListN.{length, length-set}
 use Rattle.base.specs.Limits.{maxLen, minLen, isOverlong, isUndersize, isEndless}
 use Rattle.base.specs.declared.types.MaybeId.{MaybeId}
 use Rattle.base.specs.declared.types.MaybeLen.{MaybeLen}
 use Rattle.base.specs.declared.types.MaybeLen.the-variants as len
 use Rattle.base.proofs.Cases.{on-flag, cond-cases}
-use Rattle.ring.specs.Ring.{maxWaiting, maxLate, noSent, firstFree, found, takenOut, remembered, swept, Closed}
+use Rattle.ring.specs.Ring.{maxWaiting, maxLate, noSent, firstFree, found, Closed}
 use Rattle.ring.specs.Lapse.{isPassed, deferOf, scanOf}
 use Rattle.ring.specs.declared.types.Sent.{Sent}
 use Rattle.ring.specs.declared.lapse.Scanned.{Scanned}
 use Rattle.ring.proofs.ClosedLaws.{closed-new, closed-long, closed-more, closed-out, closed-scan}
 use Rattle.ring.proofs.SweepLaws.{remember-long, sweep-long}
-use Rattle.rtt.specs.Trips.{Trips}
 use Rattle.rtt.proofs.RttLaws.{new-trips, sample-trips}
 use Rattle.seek.specs.Rules.{isProvable}
 use Rattle.seek.specs.Search as seek

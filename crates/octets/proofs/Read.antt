@@ -1,28 +1,25 @@
 -- One law for every width: a loop that reads bytes from the highest down makes the number whose bytes they are.
 -- Assumes nothing.
-use mathlib.Core.Path.{_≡_, refl, sym, ap, _∙_}
-use mathlib.Core.List.{List, [], _∷_, _++_}
-use mathlib.Core.Bool.{Bool, true, false, _&&_}
-use Prim.Native.Nat.{ℕ, zero, suc, _+_, _-_, _*_, _<_, _≤_, _^_}
+use mathlib.Core.Path.{_≡_, sym}
+use mathlib.Core.List.{List}
+use Prim.Native.Nat.{ℕ, suc, _+_, _-_, _*_, _<_, _≤_, _^_}
 use native.Mathlib.Omega.{arith}
-use native.Mathlib.Numerals.{add-one}
 use native.Mathlib.Nat.{pow-suc, pow-le-pow-right}
 use borrow.Author.Tests.{le-leb, lt-leb}
-use lib.Dec.{leb}
 use lib.ListN.{length, take, drop, getD}
 use lib.Seq.{drop-cons}
-use Rattle.octets.specs.Octets.{numberOf, readAt}
+use Rattle.octets.specs.Octets.{leNumber, readAt}
 
 -- of w bytes from `at` on, all but the first `left` make x
 pub record Reading (l : List ℕ) (at w left x : ℕ) : Type 0 where
   pub few : left ≤ w
   pub narrow : w ≤ 8
   pub there : at + w ≤ length l
-  pub is : x ≡ numberOf (take (w - left) (drop (at + left) l))
+  pub is : x ≡ leNumber (take (w - left) (drop (at + left) l))
   pub small : x < 256 ^ (w - left)
 
 pub reading-start : {l : List ℕ} {at w : ℕ} → w ≤ 8 → at + w ≤ length l → Reading l at w w 0
-unfolding numberOf
+unfolding leNumber
 reading-start {l} {at} {w} h k =
     let z : w - w ≡ 0 = omega arith in
     record { few = omega arith; narrow = h; there = k; is = rw z; small = rw z (omega arith) }
@@ -38,14 +35,14 @@ reading-fits {l} {at} {w} {left} {x} {b} r h g =
     omega arith
 
 pub reading-next : {l : List ℕ} {at w left x b : ℕ} (d : ℕ) → Reading l at w left x → 0 < left → b ≡ getD l (at + (left - 1)) d → b < 256 → Reading l at w (left - 1) (x * 256 + b)
-unfolding numberOf
+unfolding leNumber
 reading-next {l} {at} {w} {left} {x} {b} d r h e g =
     let n : w - (left - 1) ≡ suc (w - left) = omega arith in
     let k : at + (left - 1) < length l = omega arith in
     let s : suc (at + (left - 1)) ≡ at + left = omega arith in
-    let q : numberOf (take (suc (w - left)) (drop (at + (left - 1)) l)) ≡ b + 256 * numberOf (take (w - left) (drop (at + left) l)) =
+    let q : leNumber (take (suc (w - left)) (drop (at + (left - 1)) l)) ≡ b + 256 * leNumber (take (w - left) (drop (at + left) l)) =
     rw (drop-cons l (at + (left - 1)) d k, s, sym e) in
-    let y : x ≡ numberOf (take (w - left) (drop (at + left) l)) = r .is in
+    let y : x ≡ leNumber (take (w - left) (drop (at + left) l)) = r .is in
     record {
       few = omega arith;
       narrow = r .narrow;

@@ -1,7 +1,7 @@
 -- Numbers as little-endian bytes (document 01, "Files and tail": "little-endian"), and what a writer leaves of lent
 -- bytes.
 use mathlib.Core.List.{List, [], _∷_, _++_}
-use mathlib.Core.Bool.{Bool, cond, _&&_}
+use mathlib.Core.Bool.{cond, _&&_}
 use Prim.Native.Nat.{ℕ, zero, suc, _+_, _*_, _/_, _%_}
 use lib.Dec.{leb}
 use lib.ListN.{length, take, drop}
@@ -25,10 +25,10 @@ unfoldable pub over : List ℕ → List ℕ → List ℕ
 over bytes l = cond (leb (length bytes) (length l)) (bytes ++ drop (length bytes) l) l
 
 -- the number whose bytes these are, the lowest first
-unfoldable pub numberOf : List ℕ → ℕ
-numberOf [] = 0
-numberOf (b ∷ bs) = b + 256 * numberOf bs
+unfoldable pub leNumber : List ℕ → ℕ
+leNumber [] = 0
+leNumber (b ∷ bs) = b + 256 * leNumber bs
 
 -- the number in the w bytes from `at` on; 0 where these are not there or are more than eight
 unfoldable pub readAt : ℕ → ℕ → List ℕ → ℕ
-readAt at w l = cond (leb w 8 && leb (at + w) (length l)) (numberOf (take w (drop at l))) 0
+readAt at w l = cond (leb w 8 && leb (at + w) (length l)) (leNumber (take w (drop at l))) 0

@@ -4,7 +4,6 @@ use Prim.Native.Nat.{ℕ, _+_, _%_, _^_}
 use mathlib.Core.List.{List, [], _∷_}
 use mathlib.Core.Bool.{Bool, true, false, cond, _&&_}
 use lib.Dec.{eqb}
-use lib.Ieee.{Float}
 use lib.ListN.{length, take, drop, replicate}
 use Rattle.octets.specs.Octets.{readAt}
 use Rattle.fields.specs.Fields.{floatOf}

@@ -1,22 +1,21 @@
 -- The ring stays closed up: the waiting probes at the front, free places behind them.
 -- Assumes nothing.
-use Prim.Native.Nat.{ℕ, zero, suc, _+_, _-_, _<_, _≤_}
+use Prim.Native.Nat.{ℕ, zero, suc, _+_, _-_, _<_}
 use mathlib.Core.Path.{_≡_, refl, sym, ap, _∙_}
-use mathlib.Core.List.{List, [], _∷_, _++_, append-nil}
-use mathlib.Core.Bool.{Bool, true, false, not}
+use mathlib.Core.List.{List, [], _∷_, _++_}
+use mathlib.Core.Bool.{Bool, true, false}
 use native.Mathlib.Omega.{arith}
-use lib.ListN.{length, getD, set, replicate, length-append, length-replicate, length-set}
-use Rattle.base.specs.Seq.{position, every, keep}
+use lib.ListN.{length, set, replicate, length-append, length-replicate, length-set}
+use Rattle.base.specs.Seq.{position, every}
 use Rattle.base.specs.declared.types.MaybeTime.{MaybeTime}
 use Rattle.base.specs.declared.types.MaybeTime.the-variants.{None, Some}
-use Rattle.base.proofs.Cases.{on-flag, on-order, never}
+use Rattle.base.proofs.Cases.{on-flag, on-order}
 use Rattle.base.proofs.SeqLaws.{length-keep}
 use Rattle.base.proofs.BookLaws.{Holds, holds-kept, holds-packed, holds-more}
 use Rattle.base.proofs.KeepLaws.{keep-passes}
-use Rattle.ring.specs.Ring.{maxWaiting, noSent, isUsed, isFree, firstFree, waiting, packed, takenOut, Closed}
+use Rattle.ring.specs.Ring.{maxWaiting, noSent, isUsed, isFree, firstFree, waiting, takenOut, Closed}
 use Rattle.ring.specs.Lapse.{withDue, scanOf, lapseOr}
 use Rattle.ring.specs.declared.types.Sent.{Sent}
-use Rattle.ring.specs.declared.lapse.Scanned.{Scanned}
 
 -- a closed ring holds its waiting probes and nothing else; and what holds some probes is closed
 holds-of : {l : List Sent} → Closed l → Holds isUsed noSent maxWaiting l (waiting l)

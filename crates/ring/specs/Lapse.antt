@@ -2,7 +2,7 @@
 -- `fallen`).
 use Prim.Native.Nat.{ℕ, suc}
 use mathlib.Core.List.{List, [], _∷_}
-use mathlib.Core.Bool.{Bool, true, false, cond, _&&_}
+use mathlib.Core.Bool.{Bool, false, cond, _&&_}
 use lib.Dec.{leb, ltb}
 use Rattle.base.specs.Limits.{minLen}
 use Rattle.base.specs.Time.{deadlineOf}

@@ -3,7 +3,7 @@
 -- it, so that what is refused first is the clause on its list.
 -- Assumes nothing.
 use Prim.Native.Nat.{ℕ}
-use mathlib.Core.Bool.{Bool, true, false}
+use mathlib.Core.Bool.{Bool, false}
 use mathlib.Core.Path.{_≡_, refl}
 use mathlib.Core.List.{List, [], _∷_, map}
 use mathlib.Core.Logic.{inr}
@@ -12,7 +12,7 @@ use Rattle.base.specs.Refusals.{refusalNumber}
 use Rattle.base.specs.declared.types.MaybeTime.the-variants as time
 use Rattle.ring.specs.Ring.{waiting}
 use Rattle.rules.specs.Answers.{event, settings, answers}
-use Rattle.rules.specs.Event.{bit, numberOf, valueOf}
+use Rattle.rules.specs.Event.{numberOf, valueOf}
 use Rattle.rules.specs.Rules.{refusals}
 use Rattle.rules.specs.Step.{freshRecord, run, step}
 use Rattle.rules.specs.Book.{answerSays, judgeSays, noted}

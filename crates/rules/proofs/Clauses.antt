@@ -1,25 +1,24 @@
 -- The clauses of demand 3 at one event, of books that agreed with the slots before it and do so after it.
 -- Assumes nothing.
-use Prim.Native.Nat.{ℕ, suc, _+_, _≤_, _<_}
+use Prim.Native.Nat.{ℕ, suc, _+_, _≤_}
 use mathlib.Core.Bool.{Bool, true, false, not, _&&_, cond}
 use mathlib.Core.Logic.{_⊎_, inl, inr}
 use mathlib.Core.Path.{_≡_, refl, ap, sym, _∙_, subst}
-use mathlib.Core.List.{List, [], _∷_}
+use mathlib.Core.List.{_∷_}
 use native.Mathlib.Omega.{arith}
 use lib.Dec.{eqb}
 use borrow.Author.Tests.{eq-eqb}
 use Rattle.base.specs.declared.types.MaybeLen.{MaybeLen}
 use Rattle.base.specs.declared.types.MaybeLen.the-variants as len
-use Rattle.base.proofs.Cases.{on-flag, never}
-use Rattle.seek.specs.Search.{lostNow}
+use Rattle.base.proofs.Cases.{on-flag}
 use Rattle.rules.specs.Event.{Answer, Poll, Judge, is, bit}
 use Rattle.rules.specs.Step.{Entry}
 use Rattle.rules.specs.Book.{Acked, Lost, Book, Books, waits, outSize, isAck, isLoss, answerSays, judgeSays, clears, waitingAt, noted, note}
-use Rattle.rules.specs.Demand3.{Every, Accepted, Once, Stays, Polled, AtMost, Carries, Rest, Rested, Settled}
+use Rattle.rules.specs.Demand3.{Every, Once, Stays, Polled, AtMost, Carries, Rest, Rested, Settled}
 use Rattle.rules.specs.declared.types.Settings.{Settings}
 use Rattle.rules.specs.declared.types.Event.{Event}
 use Rattle.rules.specs.declared.types.Slot.{Slot}
-use Rattle.rules.proofs.Turns.{withKind, by-number}
+use Rattle.rules.proofs.Turns.{by-number}
 use Rattle.rules.proofs.Passing.{stays}
 use Rattle.rules.proofs.Line.{laneOf, outCount}
 use Rattle.rules.proofs.Agree.{Inv, and-true}

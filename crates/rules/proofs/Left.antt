@@ -1,8 +1,8 @@
 -- A refused event leaves the record as it came.
 -- Assumes nothing.
-use Prim.Native.Nat.{ℕ, zero, suc, _^_}
-use mathlib.Core.Bool.{Bool, true, false, not, _&&_, cond}
-use mathlib.Core.Path.{_≡_, refl, ap, sym, _∙_, subst}
+use Prim.Native.Nat.{ℕ}
+use mathlib.Core.Bool.{Bool, true, false, not, cond}
+use mathlib.Core.Path.{_≡_, refl, ap, _∙_}
 use mathlib.Core.List.{List, [], _∷_}
 use lib.Dec.{eqb, leb, ltb}
 use borrow.Author.Tests.{eqb-false}
@@ -19,7 +19,6 @@ use Rattle.base.proofs.Cases.{never, cond-cases}
 use Rattle.ring.specs.Ring.{firstFree, found}
 use Rattle.seek.specs.Search as search
 use Rattle.seek.specs.declared.types.Settled.{Settled}
-use Rattle.seek.specs.declared.types.Judged.{Judged}
 use Rattle.live.specs.Probe.{sendOf, answerOf}
 use Rattle.live.specs.Search as live
 use Rattle.live.specs.declared.types.Outcome.{Outcome}
@@ -27,7 +26,7 @@ use Rattle.live.specs.declared.types.Answer.{Answer}
 use Rattle.live.specs.declared.types.Liveness.{Liveness}
 use Rattle.rules.specs.Event.{Choose, is, numberOf}
 use Rattle.rules.specs.Rules.{emptySlot, turn, turnBy, answered, searched, refusals, isClear, onSlot}
-use Rattle.rules.specs.Step.{slotAt, put, choiceOf, step}
+use Rattle.rules.specs.Step.{slotAt, choiceOf, step}
 use Rattle.rules.specs.declared.types.Settings.{Settings}
 use Rattle.rules.specs.declared.types.Event.{Event}
 use Rattle.rules.specs.declared.types.Reply.the-variants as reply

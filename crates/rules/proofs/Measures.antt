@@ -1,11 +1,11 @@
 -- On every record that a list of events makes, ETX is within 1 and 100, and no score is a NaN; no premise at all.
 -- Assumes nothing.
 use Prim.Native.Nat.{ℕ, zero, suc}
-use mathlib.Core.Bool.{Bool, true, false, cond}
-use mathlib.Core.Path.{_≡_, refl, ap, sym, _∙_, subst}
+use mathlib.Core.Bool.{Bool, true, false}
+use mathlib.Core.Path.{_≡_, refl, ap, sym, _∙_}
 use mathlib.Core.List.{List, [], _∷_}
 use lib.Dec.{leb, ltb}
-use lib.ListN.{getD, set, replicate}
+use lib.ListN.{getD, replicate}
 use lib.Ieee.{Float, isNan, le, ofBits}
 use Rattle.base.proofs.Cases.{cond-cases}
 use Rattle.base.specs.Limits.{isOverlong, isUndersize, isEndless}
@@ -20,12 +20,11 @@ use Rattle.etx.proofs.WithinLaws.{fold-within}
 use Rattle.etx.proofs.ScoreLaws.{score-real}
 use Rattle.ring.specs.Ring.{firstFree, found}
 use Rattle.ring.specs.Lapse.{isPassed, deferOf, scanOf}
-use Rattle.ring.specs.declared.lapse.Scanned.{Scanned}
 use Rattle.rtt.specs.Samples.{minRtt}
 use Rattle.rtt.specs.Spans.{baseRtt}
 use Rattle.seek.specs.Search as search
 use Rattle.seek.specs.declared.types.Settled.{Settled}
-use Rattle.live.specs.Probe.{sendOf, answerOf, expireOf, expiredBy}
+use Rattle.live.specs.Probe.{sendOf, answerOf, expireOf}
 use Rattle.live.specs.Answers.{answerValue, isAccepted, hasLapsed}
 use Rattle.live.specs.Search as live
 use Rattle.live.specs.Times as times
@@ -37,7 +36,7 @@ use Rattle.scores.specs.declared.MaybeScore.{MaybeScore}
 use Rattle.scores.specs.declared.MaybeScore.the-variants as score
 use Rattle.rules.specs.Event.{Choose, is}
 use Rattle.rules.specs.Rules.{emptySlot, answered, lapsed, pollOf, searched, onSlot}
-use Rattle.rules.specs.Step.{freshRecord, slotAt, put, choiceOf, step, run}
+use Rattle.rules.specs.Step.{freshRecord, slotAt, choiceOf, step, run}
 use Rattle.rules.specs.Demand3.{slotAfter}
 use Rattle.rules.specs.declared.types.Settings.{Settings}
 use Rattle.rules.specs.declared.types.Event.{Event}

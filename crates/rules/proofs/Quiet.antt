@@ -1,15 +1,14 @@
 -- The events that leave the size search: open, probe, sample, fold, data, thaw, sweep and close.
 -- Assumes nothing.
-use Prim.Native.Nat.{ℕ, _+_, _≤_, _^_}
-use mathlib.Core.Bool.{Bool, true, false, _||_}
+use Prim.Native.Nat.{ℕ, _+_}
+use mathlib.Core.Bool.{false, _||_}
 use mathlib.Core.Path.{_≡_, refl, ap, _∙_}
-use mathlib.Core.List.{[], _∷_}
 use native.Mathlib.Omega.{arith}
-use lib.Dec.{leb, ltb}
+use lib.Dec.{leb}
 use lib.ListN.{length, set, length-map}
 use borrow.Author.Tests.{ltb-false}
 use Rattle.base.proofs.Cases.{cond-cases}
-use Rattle.base.specs.Limits.{maxLen, isOverlong, isUndersize, isEndless}
+use Rattle.base.specs.Limits.{isOverlong, isUndersize, isEndless}
 use Rattle.base.specs.declared.types.Refusal.{Refusal}
 use Rattle.base.specs.declared.types.Refusal.the-variants as refusal
 use Rattle.base.specs.declared.types.MaybeId.{MaybeId}

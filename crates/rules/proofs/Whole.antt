@@ -1,6 +1,6 @@
 -- Demand 3 of every list: record and books stay together from event to event, and each clause holds along the list.
 -- Assumes nothing.
-use Prim.Native.Nat.{ℕ, zero, suc, _+_, _≤_, _<_, _^_}
+use Prim.Native.Nat.{ℕ, zero, suc, _≤_, _<_, _^_}
 use mathlib.Core.Bool.{Bool, true, false, _&&_, _||_, cond}
 use mathlib.Core.Path.{_≡_, refl, ap, sym, _∙_, subst}
 use mathlib.Core.List.{List, [], _∷_}
@@ -28,7 +28,7 @@ use Rattle.rules.specs.declared.types.Record.{Record}
 use Rattle.rules.specs.declared.types.Turn.{Turn}
 use Rattle.rules.specs.declared.types.Stepped.{Stepped}
 use Rattle.rules.proofs.Laws.{and-second, refused-number}
-use Rattle.rules.proofs.Turns.{after, Next, withKind, by-number}
+use Rattle.rules.proofs.Turns.{after, Next, by-number}
 use Rattle.rules.proofs.Agree.{Inv, new-inv}
 use Rattle.rules.proofs.Kept.{Says, kept, said}
 use Rattle.rules.proofs.Choosing.{picked-from, chooses}

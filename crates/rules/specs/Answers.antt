@@ -14,7 +14,6 @@ use Rattle.live.specs.Times.{sampleOf, heardOf}
 use Rattle.seek.specs.Rules.{proposalOf}
 use Rattle.seek.specs.Search as search
 use Rattle.select.specs.Choice.{rankedOf, pickedOf}
-use Rattle.rules.specs.Event.{Kind, kindNumber}
 use Rattle.rules.specs.Rules.{onSlot}
 use Rattle.rules.specs.Step.{Entry, freshRecord, step, choiceOf, trace}
 use Rattle.rules.specs.declared.types.Settings.{Settings}

@@ -1,7 +1,7 @@
 -- The record, one event on it, and a list of events (document 01, "Peer record": "each event gets the record that the
 -- last one returned or, refused, left").
 use Prim.Native.Nat.{ℕ, suc}
-use mathlib.Core.Bool.{Bool, true, false, not, cond}
+use mathlib.Core.Bool.{Bool, false, not, cond}
 use mathlib.Core.List.{List, [], _∷_}
 use lib.Ieee.{Float, nan, inf, fin, binary64, ofBits, le}
 use lib.ListN.{getD, set, replicate}

@@ -16,20 +16,20 @@ use Rattle.scores.specs.declared.MaybeScore.the-variants as score
 use Rattle.script.specs.declared.types.Called.{Called}
 
 -- an answer with a path: its number, its value, and the probe that it names
-abbrev pub answered : Liveness → Answer → Called
-answered p a = record { path = p; words = answerNumber a ∷ answerValue a ∷ answerProbe a }
+abbrev pub answerCalled : Liveness → Answer → Called
+answerCalled p a = record { path = p; words = answerNumber a ∷ answerValue a ∷ answerProbe a }
 
 -- what a method gives
 abbrev pub outcome : Outcome → Called
-outcome o = answered (o .path) (o .answer)
+outcome o = answerCalled (o .path) (o .answer)
 
 -- accepted, with no value
 abbrev pub plain : Liveness → Called
-plain p = answered p Done
+plain p = answerCalled p Done
 
 -- no such call: 15
 abbrev pub kindless : Liveness → Called
-kindless p = answered p (Refused Kind)
+kindless p = answerCalled p (Refused Kind)
 
 -- accepted, with one value
 abbrev pub valued : Liveness → ℕ → Called

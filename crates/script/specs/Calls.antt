@@ -18,7 +18,7 @@ use Rattle.live.specs.Times.{rebasedOf}
 use Rattle.live.specs.declared.types.Liveness.{Liveness}
 use Rattle.image.specs.Image.{etxBits}
 use Rattle.scores.specs.Scores.{pathScore, pathSteady}
-use Rattle.script.specs.Answers.{answered, outcome, plain, kindless, valued, timed, sized, scoreCalled, matched}
+use Rattle.script.specs.Answers.{answerCalled, outcome, plain, kindless, valued, timed, sized, scoreCalled, matched}
 use Rattle.script.specs.declared.types.Call.{Call}
 use Rattle.script.specs.declared.types.Called.{Called}
 
@@ -54,11 +54,11 @@ lineCall p c =
 -- 10 size, 11 sample, 12 fold, 13 prove, 14 seek_size
 unfoldable pub sizeCall : Liveness → Call → Called
 sizeCall p c =
-    cond (eqb (c .op) 10) (answered p (sizeOf p (low32 (c .a))))
+    cond (eqb (c .op) 10) (answerCalled p (sizeOf p (low32 (c .a))))
     (cond (eqb (c .op) 11) (outcome (sampleOf p (c .a) (c .b) (c .c) (c .d)))
     (cond (eqb (c .op) 12) (plain (foldedOf p (isOdd (c .a))))
     (cond (eqb (c .op) 13) (outcome (proveOf p (low32 (c .a))))
-    (answered p (seekSizeOf p (low32 (c .a)) (c .b))))))
+    (answerCalled p (seekSizeOf p (low32 (c .a)) (c .b))))))
 
 -- 15 seek_send, 16 seek_ring, 17 seek_answer, 18 seek_proved, 19 seek_judge
 unfoldable pub seekCall : Liveness → Call → Called
@@ -76,7 +76,7 @@ stopCall p c =
     (cond (eqb (c .op) 21) (plain (spentOf p (c .a)))
     (cond (eqb (c .op) 22) (plain (owedOf p))
     (cond (eqb (c .op) 23) (plain (rebasedOf p (c .a) (isOdd (c .b))))
-    (answered p (timeoutOf p (c .a) (c .b))))))
+    (answerCalled p (timeoutOf p (c .a) (c .b))))))
 
 -- 25 heard, 26 carried, 27 shed, 28 stopped, 29 held, 30 recheck
 unfoldable pub timeCall : Liveness → Call → Called

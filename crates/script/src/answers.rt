@@ -1,6 +1,6 @@
 // Answers as numbers: the refusal number or 0, then the values, 0 where there are fewer than five.
 ghost use mathlib.Core.Path.{_≡_};
-ghost use Rattle.script.specs.Answers.{answered, outcome, plain, valued, tagged, timed, sized, scoreCalled, matched};
+ghost use Rattle.script.specs.Answers.{answerCalled, outcome, plain, valued, tagged, timed, sized, scoreCalled, matched};
 ghost use Rattle.script.specs.Answers.{kindless};
 use crate::types::Called;
 use base::types::*;
@@ -9,7 +9,7 @@ use scores::MaybeScore;
 
 // An answer with a path: its number, its value, and the probe that it names.
 pub fn of_answer(path: Liveness, a: Answer) -> Called
-    ensures { λ r. ⌜ r ≡ answered path a ⌝ }
+    ensures { λ r. ⌜ r ≡ answerCalled path a ⌝ }
 {
     let s = a.sent();
     Called {

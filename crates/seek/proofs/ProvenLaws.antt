@@ -1,12 +1,12 @@
 -- The proven size stays within 27 and 65,535 bytes.
 -- Assumes nothing.
 use Prim.Native.Nat.{ℕ, _<_, _≤_, min}
-use mathlib.Core.Path.{_≡_, refl}
-use mathlib.Core.Bool.{Bool, true, false, not, _&&_}
+use mathlib.Core.Path.{_≡_}
+use mathlib.Core.Bool.{true, _&&_}
 use native.Mathlib.Omega.{arith}
 use borrow.Author.Tests.{ltb-true, le-ltb}
 use lib.Dec.{ltb}
-use Rattle.base.specs.Limits.{maxLen, minLen, isOverlong, isUndersize}
+use Rattle.base.specs.Limits.{maxLen, minLen}
 use Rattle.base.specs.declared.types.MaybeLen.{MaybeLen}
 use Rattle.base.specs.declared.types.MaybeLen.the-variants.{None, Some}
 use Rattle.base.proofs.Cases.{on-flag, never}
