@@ -1,5 +1,5 @@
 // Which sizes a path carries: the ladder of a probing path, and the upward search of a live one.
 pub mod ladder;
-pub mod rules;
 pub mod search;
+pub mod sizing;
 pub mod types;

@@ -1,7 +1,7 @@
 // The upward size search of a live path: proposal, sending, acknowledgement and judgement.
 ghost use mathlib.Core.Path.{_≡_};
 ghost use Rattle.seek.specs.Search.{searchSize, sentSearch, nextSearch, laterOf, settledOf, endOf, loseOf, settledSearch, ackedSearch, lostNow, dropOf, judgedSearch, provenSizes, freshSizes};
-use crate::rules::*;
+use crate::sizing::*;
 use crate::types::*;
 use base::limits::PATH_PROBE_MIN_SIZE;
 use base::serial::after;

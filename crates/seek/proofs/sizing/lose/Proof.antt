@@ -2,8 +2,8 @@
 -- Assumes nothing.
 use borrow.Author.Tests.{eq-eqb, ne-eqb}
 use borrow.Author.Needs.{needs}
-use Rattle.seek.proofs.rules.lose.Statement.{statement}
-use Rattle.seek.proofs.rules.lose.Tie as tie
+use Rattle.seek.proofs.sizing.lose.Statement.{statement}
+use Rattle.seek.proofs.sizing.lose.Tie as tie
 
 returns : tie.Need-returns
 returns c = simp (eq-eqb _ _ (c .if1 .taken))

@@ -1,8 +1,8 @@
 -- `seek::rules::rises` meets its contract, by cases on the proven size.
 -- Assumes nothing.
 use borrow.Author.Needs.{needs}
-use Rattle.seek.proofs.rules.rises.Statement.{statement}
-use Rattle.seek.proofs.rules.rises.Tie as tie
+use Rattle.seek.proofs.sizing.rises.Statement.{statement}
+use Rattle.seek.proofs.sizing.rises.Tie as tie
 
 enum-known-proven : tie.Need-enum-known-proven
 enum-known-proven c = search needs

@@ -3,8 +3,8 @@
 use borrow.Author.Tests.{eq-eqb, ne-eqb, lt-ltb, le-ltb}
 use Rattle.seek.specs.Rules.{proposalOf}
 use borrow.Author.Needs.{needs}
-use Rattle.seek.proofs.rules.proposal.Statement.{statement}
-use Rattle.seek.proofs.rules.proposal.Tie as tie
+use Rattle.seek.proofs.sizing.proposal.Statement.{statement}
+use Rattle.seek.proofs.sizing.proposal.Tie as tie
 
 returns : tie.Need-returns
 unfolding proposalOf

@@ -2,8 +2,8 @@
 -- Assumes nothing.
 use borrow.Author.Needs.{needs}
 use mathlib.Core.Path.{refl}
-use Rattle.seek.proofs.rules.ended.Statement.{statement}
-use Rattle.seek.proofs.rules.ended.Tie as tie
+use Rattle.seek.proofs.sizing.ended.Statement.{statement}
+use Rattle.seek.proofs.sizing.ended.Tie as tie
 
 add-result : tie.Need-add-result
 add-result c = search needs

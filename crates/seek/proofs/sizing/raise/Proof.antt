@@ -2,8 +2,8 @@
 -- Assumes nothing.
 use mathlib.Core.Path.{sym, _∙_}
 use borrow.Author.Needs.{needs}
-use Rattle.seek.proofs.rules.raise.Statement.{statement}
-use Rattle.seek.proofs.rules.raise.Tie as tie
+use Rattle.seek.proofs.sizing.raise.Statement.{statement}
+use Rattle.seek.proofs.sizing.raise.Tie as tie
 
 rises-requires : tie.Need-rises-requires
 rises-requires c κs = search needs
