@@ -258,8 +258,8 @@ tiers =
     record {
       settings = second;
       events =
-          opens 0 100 8 ∷ opens 1 100 16 ∷ choose marginOne ∷ opens 2 100 48 ∷ choose marginOne ∷ opens 3 100 20 ∷ choose marginOne ∷
-          closing 3 ∷ closing 2 ∷ closing 1 ∷ choose marginOne ∷ [];
+          opens 0 100 8 ∷ opens 1 100 16 ∷ choose marginOne ∷ opens 2 100 48 ∷ choose marginOne ∷
+          opens 3 100 20 ∷ choose marginOne ∷ closing 3 ∷ closing 2 ∷ closing 1 ∷ choose marginOne ∷ [];
       given =
           (0, 0) ∷ (0, 0) ∷ (0, 1) ∷ (0, 0) ∷ (0, 2) ∷ (0, 0) ∷ (0, 3) ∷ (0, 0) ∷ (0, 0) ∷ (0, 0) ∷ (0, 0) ∷ [];
     }
@@ -278,7 +278,9 @@ unfoldable pub byScores : Sample
 byScores =
     record {
       settings = second;
-      events = opens 0 100 1 ∷ opens 1 100 0 ∷ sample 0 10000000 ∷ sample 1 5000000 ∷ choose marginHundred ∷ choose marginOne ∷ [];
+      events =
+          opens 0 100 1 ∷ opens 1 100 0 ∷ sample 0 10000000 ∷ sample 1 5000000 ∷ choose marginHundred ∷
+          choose marginOne ∷ [];
       given = (0, 0) ∷ (0, 0) ∷ (0, 0) ∷ (0, 0) ∷ (0, 0) ∷ (0, 1) ∷ [];
     }
 

@@ -1,4 +1,5 @@
--- The smallest moves on which the claim could break, computed: each is named for the edit in must-fail/ that breaks it.
+-- The smallest moves on which the claim could break, computed: each is named for the edit in must-fail/ that breaks it,
+-- and stands above those that its edit breaks too, so that it is refused first.
 -- Assumes nothing.
 use mathlib.Core.List.{[], _∷_}
 use mathlib.Core.Path.{_≡_, refl}
@@ -16,6 +17,11 @@ need-31 : need 32 ≡ 0
 unfolding need
 need-31 = refl
 
+-- 60 is 27 + 33, and stays lost
+limited-33 : moves 60 opened (Prove 27 ∷ Send ∷ Judge ∷ []) .search .lost ≡ 60
+unfolding proposalOf
+limited-33 = refl
+
 -- 60 is lost: the half of the way is next
 twelve-full : moves 60 opened (Prove 27 ∷ Send ∷ Judge ∷ Send ∷ []) .search .out ≡ 43
 unfolding proposalOf
@@ -25,8 +31,3 @@ twelve-full = refl
 few-cleared : moves 28 opened (Prove 27 ∷ Send ∷ Judge ∷ Send ∷ Judge ∷ Send ∷ []) .count ≡ 1
 unfolding proposalOf
 few-cleared = refl
-
--- 60 is 27 + 33, and stays lost
-limited-33 : moves 60 opened (Prove 27 ∷ Send ∷ Judge ∷ []) .search .lost ≡ 60
-unfolding proposalOf
-limited-33 = refl

@@ -1,13 +1,15 @@
 -- The smallest lists on which a clause of demand 3 could break, computed: each is named for the edit in must-fail/ that
--- breaks
--- it, so that what is refused first is the clause on its list.
+-- breaks it. This file is checked first, from its top down, and a list stands above those that its edit breaks too: so what
+-- is refused first of an edit is the list of its name. once-draws and twelve-eleven have none: they change a number of the
+-- claim itself, and are refused where the theorem needs it.
 -- Assumes nothing.
 use Prim.Native.Nat.{ℕ}
 use mathlib.Core.Bool.{Bool, false}
 use mathlib.Core.Path.{_≡_, refl}
-use mathlib.Core.List.{List, [], _∷_, map}
-use mathlib.Core.Logic.{inr}
+use mathlib.Core.List.{List, [], _∷_, _++_, map}
+use mathlib.Core.Logic.{inl, inr}
 use native.Mathlib.Omega.{arith}
+use Rattle.base.proofs.Cases.{never}
 use Rattle.base.specs.Refusals.{refusalNumber}
 use Rattle.base.specs.declared.types.MaybeTime.the-variants as time
 use Rattle.ring.specs.Ring.{waiting}
@@ -15,8 +17,8 @@ use Rattle.rules.specs.Answers.{event, settings, answers}
 use Rattle.rules.specs.Event.{numberOf, valueOf}
 use Rattle.rules.specs.Rules.{refusals}
 use Rattle.rules.specs.Step.{freshRecord, run, step}
-use Rattle.rules.specs.Book.{answerSays, judgeSays, noted}
-use Rattle.rules.specs.Demand3.{Every, Sum, Stays, Near, marksOf, searchOf, slotAfter, bookAfter}
+use Rattle.rules.specs.Book.{Proved, Lost, answerSays, judgeSays, noted}
+use Rattle.rules.specs.Demand3.{Every, Sum, Stays, Rest, Near, marksOf, searchOf, slotAfter, bookAfter}
 use Rattle.rules.specs.declared.types.Settings.{Settings}
 use Rattle.rules.specs.declared.types.Event.{Event}
 
@@ -65,16 +67,6 @@ Searched es = searchOf (slotAfter t es 0 .path .sizes) ≡ bookAfter t es 0 .siz
 abbrev says : List Event → Event → ℕ
 says es e = valueOf (step (run (freshRecord t) es) e .reply)
 
--- ---- sums: a poll of nothing; a sweep of one
-
-sums-poll : Sum (bookAfter t (opens 27 0 ∷ poll ∷ []) 0)
-unfolding answers noted
-sums-poll = refl
-
-sums-sweep : Sum (bookAfter t (opens 27 0 ∷ probe ∷ event 13 0 0 0 0 0 0 0 ∷ []) 0)
-unfolding answers noted
-sums-sweep = refl
-
 -- ---- rings: a probe; its answer; two lapses; a deferral
 
 rings-probe : Rings (opens 27 0 ∷ probe ∷ [])
@@ -99,19 +91,22 @@ polls-due : Every (Stays t 0 false) (bookAfter t (opens 27 0 ∷ probe ∷ heard
 unfolding answers noted
 polls-due = (refl, tt)
 
--- ---- settled: a late answer; a judge before the timeout; a judge with no later answer
+-- ---- sums: a poll of nothing; a sweep of one
+
+sums-poll : Sum (bookAfter t (opens 27 0 ∷ poll ∷ []) 0)
+unfolding answers noted
+sums-poll = refl
+
+sums-sweep : Sum (bookAfter t (opens 27 0 ∷ probe ∷ event 13 0 0 0 0 0 0 0 ∷ []) 0)
+unfolding answers noted
+sums-sweep = refl
+
+-- ---- settled: a late answer; a judge with no later answer; a judge before the timeout
 
 settled-late : says (opens 27 0 ∷ probe ∷ poll ∷ []) (answer 7) ≡ answerSays
     (bookAfter t (opens 27 0 ∷ probe ∷ poll ∷ []) 0) (answer 7)
 unfolding answers noted
 settled-late = refl
-
-abbrev sought : List Event
-sought = opens 60 0 ∷ prove 27 ∷ search 0 ∷ probe ∷ answer 1 ∷ []
-
-settled-early : says sought (judge 1) ≡ judgeSays (bookAfter t sought 0) (judge 1)
-unfolding answers noted
-settled-early = refl
 
 abbrev out : List Event
 out = opens 60 0 ∷ prove 27 ∷ search 0 ∷ []
@@ -120,7 +115,20 @@ settled-judge : says out (judge 0) ≡ judgeSays (bookAfter t out 0) (judge 0)
 unfolding answers noted
 settled-judge = refl
 
--- ---- agrees: an open's flags; fresh; what a search sends, and when
+abbrev sought : List Event
+sought = opens 60 0 ∷ prove 27 ∷ search 0 ∷ probe ∷ answer 1 ∷ []
+
+settled-early : says sought (judge 1) ≡ judgeSays (bookAfter t sought 0) (judge 1)
+unfolding answers noted
+settled-early = refl
+
+-- ---- order: the refusals are tried in the table's order, 15 first
+
+order-kind : (used : Bool) (e : Event)
+    → map (λ x. refusalNumber (x .0)) (refusals used e) ≡ 15 ∷ 1 ∷ 2 ∷ 3 ∷ 4 ∷ 5 ∷ 6 ∷ []
+order-kind used e = refl
+
+-- ---- agrees: an open's flags; fresh; when a search probe was sent, and what size
 
 agrees-fits : Marked (opens 27 32 ∷ [])
 unfolding answers noted
@@ -137,21 +145,15 @@ agrees-seek : Searched (opens 60 0 ∷ prove 27 ∷ search 0 ∷ fresh ∷ [])
 unfolding answers noted
 agrees-seek = refl
 
-agrees-full : Searched (opens 60 0 ∷ prove 27 ∷ search 0 ∷ probe ∷ answer 1 ∷ judge 0 ∷ search 3 ∷ [])
-unfolding answers noted
-agrees-full = refl
-
--- ---- the refusals are tried in the table's order, 15 first
-order-kind : (used : Bool) (e : Event)
-    → map (λ x. refusalNumber (x .0)) (refusals used e) ≡ 15 ∷ 1 ∷ 2 ∷ 3 ∷ 4 ∷ 5 ∷ 6 ∷ []
-order-kind used e = refl
-
--- the record's sent instant
 agrees-at : slotAfter t out 0 .path .sizes .seek .at ≡ time.Some (bookAfter t out 0 .sizing .probeAt)
 unfolding answers noted
 agrees-at = refl
 
--- ---- chosen: not slot 0, if it is not open; tier 0 takes part; a pinned one before a higher tier; margin 1 is allowed
+agrees-full : Searched (opens 60 0 ∷ prove 27 ∷ search 0 ∷ probe ∷ answer 1 ∷ judge 0 ∷ search 3 ∷ [])
+unfolding answers noted
+agrees-full = refl
+
+-- ---- chosen: margin 1 is allowed; tier 0 takes part; not slot 0, if it is not open; a pinned one before a higher tier
 
 abbrev opensAt : ℕ → ℕ → Event
 opensAt slot flags = event 1 slot 0 0 0 27 0 flags
@@ -160,22 +162,44 @@ opensAt slot flags = event 1 slot 0 0 0 27 0 flags
 abbrev choose : Event
 choose = event 15 0 0 0x3ff0_0000_0000_0000 0 0 0 0
 
+-- the refusal number of a choose
+abbrev refuses : List Event → ℕ
+refuses es = numberOf (step (run (freshRecord t) es) choose .reply)
+
+-- a path of tier 2
+chosen-margin : refuses (opensAt 0 8 ∷ []) ≡ 0
+unfolding answers noted
+chosen-margin = refl
+
+chosen-tier : refuses (opensAt 0 0 ∷ []) ≡ 0
+unfolding answers noted
+chosen-tier = refl
+
 chosen-zero : says (opensAt 1 0 ∷ []) choose ≡ 1
 unfolding answers noted
 chosen-zero = refl
-
-chosen-tier : numberOf (step (run (freshRecord t) (opensAt 0 0 ∷ [])) choose .reply) ≡ 0
-unfolding answers noted
-chosen-tier = refl
 
 chosen-pins : says (opensAt 0 8 ∷ opensAt 1 16 ∷ []) choose ≡ 1
 unfolding answers noted
 chosen-pins = refl
 
-chosen-margin : numberOf (step (run (freshRecord t) (opensAt 0 0 ∷ [])) choose .reply) ≡ 0
-unfolding answers noted
-chosen-margin = refl
+-- ---- rests: what is said of sizes, since the open; a lost size of proven + 33 makes none; with full 132 and 100 proven a
+-- link that carries just the sizes up to 131
 
--- ---- rests: full 132 with 100 proven, and a link that carries just the sizes up to 131
+-- full 1,000 is lost
+abbrev lost : List Event
+lost = opens 1000 0 ∷ prove 27 ∷ search 0 ∷ probe ∷ answer 1 ∷ judge 0 ∷ []
+
+rests-open : bookAfter t (lost ++ prove 968 ∷ []) 0 .sizing .words ≡ Proved 968 ∷ Lost 1000 ∷ Proved 27 ∷ []
+unfolding answers noted
+rests-open = refl
+
+rests-prove : Rest 0 (bookAfter t lost 0) (record { event = prove 967; number = 0; value = 0 })
+    (bookAfter t (lost ++ prove 967 ∷ []) 0) 967 → ⊥
+unfolding answers noted
+rests-prove (inl h) = absurd (omega (arith, h .1))
+rests-prove (inr (inl h)) = never (h .2) refl
+rests-prove (inr (inr h)) = never (h .1) refl
+
 rests-thirty : Near 131 132 100
 rests-thirty = (omega arith, inr (omega arith))

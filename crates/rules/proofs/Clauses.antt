@@ -8,7 +8,6 @@ use mathlib.Core.List.{_∷_}
 use native.Mathlib.Omega.{arith}
 use lib.Dec.{eqb}
 use borrow.Author.Tests.{eq-eqb}
-use Rattle.base.specs.declared.types.MaybeLen.{MaybeLen}
 use Rattle.base.specs.declared.types.MaybeLen.the-variants as len
 use Rattle.base.proofs.Cases.{on-flag}
 use Rattle.rules.specs.Event.{Answer, Poll, Judge, is, bit}

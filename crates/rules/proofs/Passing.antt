@@ -15,7 +15,6 @@ use Rattle.base.specs.declared.types.MaybeTime.{MaybeTime}
 use Rattle.base.specs.declared.types.MaybeTime.the-variants as time
 use Rattle.base.proofs.Cases.{on-flag, never}
 use Rattle.base.proofs.BookLaws.{Holds}
-use Rattle.base.specs.declared.types.MaybeId.the-variants.{Some}
 use Rattle.ring.specs.Ring.{noSent, isUsed}
 use Rattle.ring.specs.Lapse.{passedAt, isPassed, deferOf, withDue}
 use Rattle.ring.specs.declared.types.Sent.{Sent}

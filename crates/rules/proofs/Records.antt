@@ -1,16 +1,15 @@
--- On every record that a list of events makes: its rings are closed up, and no identifier stands twice in one. Two
--- slots can be put in either order.
+-- On every record that a list of events makes its rings are closed up, with no premise at all; under demand 3's premises
+-- no identifier stands twice in one. Two slots can be put in either order.
 -- Assumes nothing.
-use Prim.Native.Nat.{ℕ, _+_, _-_, _≤_}
+use Prim.Native.Nat.{ℕ, _≤_}
 use mathlib.Core.Bool.{true}
-use mathlib.Core.Path.{_≡_, refl, ap, sym, _∙_}
-use mathlib.Core.List.{List, _++_, map, map-map}
+use mathlib.Core.Path.{_≡_, refl, ap, _∙_}
+use mathlib.Core.List.{List, map, map-map}
 use native.Mathlib.Omega.{arith}
-use lib.ListN.{length, replicate}
 use lib.Seq.{set-comm}
 use Rattle.base.proofs.BookLaws.{holds-kept}
 use Rattle.ring.specs.Ring as ring
-use Rattle.ring.specs.Ring.{noSent, isUsed, packed}
+use Rattle.ring.specs.Ring.{noSent, isUsed, Closed}
 use Rattle.ring.specs.declared.types.Sent.{Sent}
 use Rattle.rules.specs.Step.{allowed, put}
 use Rattle.rules.specs.Demand3.{FewDraws, slotAfter, bookAfter}
@@ -22,6 +21,11 @@ use Rattle.rules.specs.declared.types.Turn.{Turn}
 use Rattle.rules.proofs.Laws.{occ}
 use Rattle.rules.proofs.Line.{probeOf, idOf}
 use Rattle.rules.proofs.Whole.{good-after}
+use Rattle.rules.proofs.Measures.{path-after}
+
+-- "the ring closes up in its order"
+pub ring-closed : (t : Settings) (es : List Event) (j : ℕ) → Closed (slotAfter t es j .path .ring)
+ring-closed t es j = path-after t es j .closed
 
 abbrev idsOf : List Sent → List ℕ
 idsOf l = map (λ s. s .«probe_id») (ring.waiting l)
@@ -35,12 +39,6 @@ module _ (t : Settings) (es : List Event) (small : allowed t ≡ true) (few : Fe
 
   kept : ring.waiting ringAfter ≡ waitingAfter
   kept = holds-kept isUsed noSent refl (good-after t small es few .slots j .line .ring)
-
-  -- "the ring closes up in its order"
-  pub ring-closed : packed 8 ringAfter ≡ ringAfter
-  ring-closed =
-      ap (λ (w : List Sent). w ++ replicate (8 - length w) noSent) kept
-      ∙ sym (good-after t small es few .slots j .line .ring .full)
 
   -- no two waiting probes have one identifier
   pub ring-distinct : (id : ℕ) → occ id (idsOf ringAfter) ≤ 1

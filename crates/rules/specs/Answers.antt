@@ -35,7 +35,10 @@ numbers [] = []
 numbers (x ∷ l) = (x .number, x .value) ∷ numbers l
 
 unfoldable pub answers : Settings → List Event → List (ℕ × ℕ)
-unfolding ofBits le isNan mul add sub div ofInt negative totalOf foldOf scoreOf qualityOf minRtt withSample baseRtt spanOf outstandingOf sendOf answerOf expireOf proveOf seekSizeOf seekSendOf seekAnswerOf seekProvedOf seekJudgeOf sampleOf heardOf proposalOf search.searchSize search.sentSearch search.settledSearch search.ackedSearch search.judgedSearch rankedOf pickedOf onSlot choiceOf step
+unfolding ofBits le isNan mul add sub div ofInt negative totalOf foldOf scoreOf qualityOf minRtt withSample baseRtt
+    spanOf outstandingOf sendOf answerOf expireOf proveOf seekSizeOf seekSendOf seekAnswerOf seekProvedOf
+    seekJudgeOf sampleOf heardOf proposalOf search.searchSize search.sentSearch search.settledSearch
+    search.ackedSearch search.judgedSearch rankedOf pickedOf onSlot choiceOf step
 answers t es = numbers (trace (freshRecord t) es)
 
 -- a list with the answers that it should get, and that it gets them
