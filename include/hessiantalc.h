@@ -1,0 +1,145 @@
+/*
+ * Hessiantalc over C: every function of target/staticlib/libentries.a, which `rt staticlib entries` proves and writes
+ * (x86-64 Linux). `host/examples` holds each declaration to the function's own in crates/entries/src.
+ *
+ * A caller passes pointers that are good for as many bytes as the length beside them says, to ranges of memory that do not
+ * overlap. Beyond that nothing is asked: a call outside the limits gets a refusal number, and nothing is written. Instants
+ * and durations are nanoseconds. Bytes are little-endian. docs/ENTRIES.md has the layouts of scripts, answers, images,
+ * rivals and events, and every refusal with what to do about it.
+ */
+#ifndef HESSIANTALC_H
+#define HESSIANTALC_H
+
+#include <stdbool.h>
+#include <stddef.h>
+#include <stdint.h>
+
+#ifdef __cplusplus
+extern "C" {
+#endif
+
+/* The refusal number, 0 if the call was accepted, and the value, 0 if it was refused. */
+struct hess_reply {
+    uint64_t number;
+    uint64_t value;
+};
+
+/* The same where the value is a float. */
+struct hess_float_reply {
+    uint64_t number;
+    double value;
+};
+
+/* ---- a record of up to eight paths */
+
+/*
+ * Runs the events of a file, 32 bytes of settings and then records to the end, on a fresh record. Writes to `out` for each
+ * event 16 bytes, the refusal number and the value, u64 each; then for each open slot from 0 to 7 one byte, its number, and
+ * the bytes of its standing. The value is the count of bytes written; bytes past them stay as they are.
+ * Refused, with nothing written: 13, the settings or a record are cut short; 6, a setting is 2^62 or more; 15 or 14, the
+ * first record that can't be read has no kind of 1 to 15, or a map bit that its kind has not; 16, `outlen` is too small.
+ */
+struct hess_reply hess_events(const uint8_t *file, size_t len, uint8_t *out, size_t outlen);
+
+/* ---- one path, by a script */
+
+/*
+ * Runs a script, calls of 48 bytes, on a new path, and writes to `out` an answer of 48 bytes for each call, then the 1,800
+ * bytes of the path's image. Gives 0; or 13, `len` is no multiple of 48; or 16, `outlen` is below `len` + 1,800.
+ */
+uint64_t hess_script(const uint8_t *script, size_t len, uint8_t *out, size_t outlen);
+
+/* ---- identifiers and instants */
+
+/* Whether identifier a comes after b: (a - b) mod 2^32 is 1 to 2^31 - 1. */
+bool hess_after(uint32_t a, uint32_t b);
+
+/* t + d; while that passes 2^64 - 1, d is halved, rounding down. 6: d is 2^62 or more. */
+struct hess_reply hess_deadline(uint64_t t, uint64_t d);
+
+/* now - from, 0 where the clock went back. */
+uint64_t hess_elapsed(uint64_t now, uint64_t from);
+
+/* ---- measures */
+
+/* The ETX after one more probe, delivered or not: always within 1 and 100. */
+double hess_fold(double etx, bool delivered);
+
+/* etx * (1 + rtt_ms / 100). */
+double hess_quality_index(double etx, double rtt_ms);
+
+/* A duration in seconds. 6: it is 2^62 or more. */
+struct hess_float_reply hess_seconds(uint64_t ns);
+
+/* The score of a path with this ETX and least round trip. 6: the round trip is 2^62 or more. */
+struct hess_float_reply hess_score(double etx, uint64_t rtt);
+
+/* x, or the end of lo to hi that it is beyond; a NaN x stays one. Meant for numbers lo <= hi. */
+double hess_clamp(double x, double lo, double hi);
+
+/* The larger; a NaN gives the other; of equal ones, as two zeros, the first. */
+double hess_max(double x, double y);
+
+/* totalOrder (IEEE 754-2019, 5.10) of two bit patterns: a comes not after b. Any pattern, every NaN included. */
+bool hess_total_bits(uint64_t a, uint64_t b);
+
+/* The same order on floats, every NaN standing where a positive quiet one stands. */
+bool hess_total(double a, double b);
+
+/* ---- sizes and waiting */
+
+/*
+ * The length of the next probe of a path whose last size is `last` if `held`, and that has fallen or not. 5: `full` or
+ * `last` is above 65,535, or `full` below 27.
+ */
+struct hess_reply hess_size(uint32_t full, bool fallen, bool held, uint32_t last);
+
+/*
+ * How long a probe waits: the largest of floor, 3 * last (if `timed`), and the smaller of 3 * largest (if `sampled`) and
+ * cap. 6: `floor` or `cap` is 2^62 or more.
+ */
+struct hess_reply hess_timeout(uint64_t floor, uint64_t cap, bool timed, uint64_t last, bool sampled, uint64_t largest);
+
+/*
+ * The bytes of the largest frame: `link`; or `proven` + 36 where that is less, if `held` and the transport is not
+ * `oriented` to connections. 5: `link`, or `proven` if `held`, is above 65,535.
+ */
+struct hess_reply hess_carried(uint32_t link, bool held, uint32_t proven, bool oriented);
+
+/* ---- the choice: a field is eight rivals of 96 bytes, a pair is two, first the one to change to */
+
+/*
+ * The place of the rival to take. 13: `len` is not 768; 6: a round trip of 2^62 or more; 12: a rival's index is not its
+ * place; 11: there is no rival.
+ */
+struct hess_reply hess_choose(const uint8_t *field, size_t len, double margin);
+
+/*
+ * Writes two u64: whether any of the ranked rivals has a score, and the bits of the least. Gives 0; or 13, 6, 12 as above;
+ * or 16, `outlen` is below 16.
+ */
+uint64_t hess_best(const uint8_t *field, size_t len, uint8_t *out, size_t outlen);
+
+/* 1 if a change on score is held, else 0. 13: `len` is not 192; 6: a round trip of 2^62 or more. */
+struct hess_reply hess_held(const uint8_t *pair, size_t len, double margin);
+
+/* 1 if a change for a quicker medium is held, else 0. Refused as hess_held. */
+struct hess_reply hess_waits(const uint8_t *pair, size_t len, double margin);
+
+/*
+ * Of a hold from `at` on, after so many reports: 1 if it holds at `now`, which is before `at` + `dwell` or while one of two
+ * reports is owed, else 0. 6: `dwell` is 2^62 or more.
+ */
+struct hess_reply hess_hold(uint64_t at, uint8_t reports, uint64_t now, uint64_t dwell);
+
+/* The tier of a role, modulo 4: 0 never, 1 backup, 2 normal, 3 preferred have the tiers 0, 1, 2, 2. */
+uint64_t hess_tier(uint64_t role);
+
+/* Whether medium a is quicker than b, both modulo 4: 0 BLE, 1 wired, 2 wireless, 3 unknown, which has no speed. */
+bool hess_quicker(uint64_t a, uint64_t b);
+
+#ifdef __cplusplus
+}
+#endif
+
+#endif
