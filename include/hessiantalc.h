@@ -2,10 +2,10 @@
  * Hessiantalc over C: every function of target/staticlib/libentries.a, which `rt staticlib entries` proves and writes
  * (x86-64 Linux). `host/examples` holds each declaration to the function's own in crates/entries/src.
  *
- * A caller passes pointers that are good for as many bytes as the length beside them says, to ranges of memory that do not
- * overlap. Beyond that nothing is asked: a call outside the limits gets a refusal number, and nothing is written. Instants
- * and durations are nanoseconds. Bytes are little-endian. docs/ENTRIES.md has the layouts of scripts, answers, images,
- * rivals and events, and every refusal with what to do about it.
+ * A caller passes pointers that are good for as many bytes as the length beside them says, to ranges of memory that do
+ * not overlap. Beyond that nothing is asked: a call outside the limits gets a refusal number, and nothing is written.
+ * Instants and durations are nanoseconds. Bytes are little-endian. docs/ENTRIES.md has the layouts of scripts, answers,
+ * images, rivals and events, and every refusal with what to do about it.
  */
 #ifndef HESSIANTALC_H
 #define HESSIANTALC_H
@@ -33,19 +33,20 @@ struct hess_float_reply {
 /* ---- a record of up to eight paths */
 
 /*
- * Runs the events of a file, 32 bytes of settings and then records to the end, on a fresh record. Writes to `out` for each
- * event 16 bytes, the refusal number and the value, u64 each; then for each open slot from 0 to 7 one byte, its number, and
- * the bytes of its standing. The value is the count of bytes written; bytes past them stay as they are.
- * Refused, with nothing written: 13, the settings or a record are cut short; 6, a setting is 2^62 or more; 15 or 14, the
- * first record that can't be read has no kind of 1 to 15, or a map bit that its kind has not; 16, `outlen` is too small.
+ * Runs the events of a file, 32 bytes of settings and then records to the end, on a fresh record. Writes to `out` for
+ * each event 16 bytes, the refusal number and the value, u64 each; then for each open slot from 0 to 7 one byte, its
+ * number, and the bytes of its standing. The value is the count of bytes written; bytes past them stay as they are.
+ * Refused, with nothing written: 13, the settings or a record are cut short; 6, a setting is 2^62 or more; 15 or 14,
+ * the first record that can't be read has no kind of 1 to 15, or a map bit that its kind has not; 16, `outlen` is too
+ * small.
  */
 struct hess_reply hess_events(const uint8_t *file, size_t len, uint8_t *out, size_t outlen);
 
 /* ---- one path, by a script */
 
 /*
- * Runs a script, calls of 48 bytes, on a new path, and writes to `out` an answer of 48 bytes for each call, then the 1,800
- * bytes of the path's image. Gives 0; or 13, `len` is no multiple of 48; or 16, `outlen` is below `len` + 1,800.
+ * Runs a script, calls of 48 bytes, on a new path, and writes to `out` an answer of 48 bytes for each call, then the
+ * 1,800 bytes of the path's image. Gives 0; or 13, `len` is no multiple of 48; or 16, `outlen` is below `len` + 1,800.
  */
 uint64_t hess_script(const uint8_t *script, size_t len, uint8_t *out, size_t outlen);
 
@@ -95,8 +96,8 @@ bool hess_total(double a, double b);
 struct hess_reply hess_size(uint32_t full, bool fallen, bool held, uint32_t last);
 
 /*
- * How long a probe waits: the largest of floor, 3 * last (if `timed`), and the smaller of 3 * largest (if `sampled`) and
- * cap. 6: `floor` or `cap` is 2^62 or more.
+ * How long a probe waits: the largest of floor, 3 * last (if `timed`), and the smaller of 3 * largest (if `sampled`)
+ * and cap. 6: `floor` or `cap` is 2^62 or more.
  */
 struct hess_reply hess_timeout(uint64_t floor, uint64_t cap, bool timed, uint64_t last, bool sampled, uint64_t largest);
 
@@ -115,8 +116,8 @@ struct hess_reply hess_carried(uint32_t link, bool held, uint32_t proven, bool o
 struct hess_reply hess_choose(const uint8_t *field, size_t len, double margin);
 
 /*
- * Writes two u64: whether any of the ranked rivals has a score, and the bits of the least. Gives 0; or 13, 6, 12 as above;
- * or 16, `outlen` is below 16.
+ * Writes two u64: whether any of the ranked rivals has a score, and the bits of the least. Gives 0; or 13, 6, 12 as
+ * above; or 16, `outlen` is below 16.
  */
 uint64_t hess_best(const uint8_t *field, size_t len, uint8_t *out, size_t outlen);
 
@@ -127,8 +128,8 @@ struct hess_reply hess_held(const uint8_t *pair, size_t len, double margin);
 struct hess_reply hess_waits(const uint8_t *pair, size_t len, double margin);
 
 /*
- * Of a hold from `at` on, after so many reports: 1 if it holds at `now`, which is before `at` + `dwell` or while one of two
- * reports is owed, else 0. 6: `dwell` is 2^62 or more.
+ * Of a hold from `at` on, after so many reports: 1 if it holds at `now`, which is before `at` + `dwell` or while one of
+ * two reports is owed, else 0. 6: `dwell` is 2^62 or more.
  */
 struct hess_reply hess_hold(uint64_t at, uint8_t reports, uint64_t now, uint64_t dwell);
 

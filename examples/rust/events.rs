@@ -48,7 +48,8 @@ fn take(at: &mut &[u8], bytes: usize) -> u64 {
 
 /// Takes a standing and prints the fields that it has.
 fn print_standing(at: &mut &[u8]) {
-    let fields = [("last RTT", 8), ("least RTT", 8), ("base RTT", 8), ("proven", 2), ("answered", 4), ("quiet since", 8)];
+    let fields =
+        [("last RTT", 8), ("least RTT", 8), ("base RTT", 8), ("proven", 2), ("answered", 4), ("quiet since", 8)];
     let map = take(at, 1);
     for (i, (name, bytes)) in fields.into_iter().enumerate() {
         if map >> i & 1 == 1 {
