@@ -76,11 +76,13 @@ heldReply a = record { number = heldNumber a; value = heldValue a }
 -- the rivals `to` and `from`; 13 for bytes that are not a pair
 unfoldable pub heldFrom : List ℕ → Float → Reply
 heldFrom s margin =
-    cond (eqb (length s) pairLen) (heldReply (heldOf (rivalFrom s) (rivalFrom (drop rivalLen s)) margin)) (refusedReply Cut)
+    cond (eqb (length s) pairLen) (heldReply (heldOf (rivalFrom s) (rivalFrom (drop rivalLen s)) margin))
+    (refusedReply Cut)
 
 unfoldable pub waitsFrom : List ℕ → Float → Reply
 waitsFrom s margin =
-    cond (eqb (length s) pairLen) (heldReply (waitsOf (rivalFrom s) (rivalFrom (drop rivalLen s)) margin)) (refusedReply Cut)
+    cond (eqb (length s) pairLen) (heldReply (waitsOf (rivalFrom s) (rivalFrom (drop rivalLen s)) margin))
+    (refusedReply Cut)
 
 -- so many reports, one after the other
 abbrev pub reportsOf : ℕ → Hold → Hold
@@ -103,4 +105,5 @@ sizedReply a = record { number = sizeNumber a; value = sizeValue a }
 -- 5 for a proven size above 65,535, if held
 unfoldable pub carriedReply : ℕ → Bool → ℕ → Bool → Reply
 carriedReply link held proven oriented =
-    cond (held && isOverlong proven) (refusedReply Length) (sizedReply (carriedFrame link (maybeLen held proven) oriented))
+    cond (held && isOverlong proven) (refusedReply Length)
+    (sizedReply (carriedFrame link (maybeLen held proven) oriented))

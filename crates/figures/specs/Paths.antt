@@ -80,7 +80,8 @@ afterSettling p full = cond (eqb (sizeOut p) full) (lost p) (acked p)
 -- how many search probes are sent, at most n, until no size is proposed
 abbrev pub probeCount : ℕ → Liveness → ℕ → ℕ
 probeCount zero p full = 0
-probeCount (suc n) p full = cond (isAccepted (seekSizeOf p full 0)) (suc (probeCount n (afterSettling (afterSearch p full) full) full)) 0
+probeCount (suc n) p full =
+    cond (isAccepted (seekSizeOf p full 0)) (suc (probeCount n (afterSettling (afterSearch p full) full) full)) 0
 
 -- ---- RTT and stop
 
