@@ -1,0 +1,2 @@
+// Records of an event file, from lent bytes.
+pub mod types;

@@ -1,0 +1,1 @@
+// Lines of four numbers in decimal, into lent bytes.
