@@ -1,3 +1,4 @@
 -- Laws of event files.
 pub mod FrontLaws
 pub mod ReadLaws
+pub mod FileLaws
