@@ -2,3 +2,4 @@
 pub mod FrontLaws
 pub mod ReadLaws
 pub mod FileLaws
+pub mod WriteLaws
