@@ -3,18 +3,22 @@
 use Prim.Native.Nat.{ℕ, _+_, _<_, _≤_, _^_}
 use mathlib.Core.Path.{_≡_, refl, sym, ap, _∙_}
 use mathlib.Core.Bool.{Bool, true, false, cond}
-use mathlib.Core.List.{List, [], _∷_, _++_, append-assoc}
+use mathlib.Core.List.{List, [], _∷_, _++_, map, append-assoc}
 use native.Mathlib.Omega.{arith}
 use lib.ListN.{length, length-append}
 use lib.Seq.{drop-append-seam}
-use Rattle.octets.specs.Octets.{le, readAt}
+use Rattle.octets.specs.Octets.{le, flat, wordsOf, readAt}
 use Rattle.octets.proofs.Read.{read-back}
-use Rattle.octets.proofs.Fill.{le-length}
+use Rattle.octets.proofs.Fill.{le-length, flat-length}
 use Rattle.rules.specs.declared.types.Event.{Event}
+use Rattle.rules.specs.declared.types.Settings.{Settings}
 use Rattle.eventfile.specs.File.{stands, bytes, spanAt, idAt, lenAt, ackedAt, flagsAt, sizeOf, field, eventOf}
-use Rattle.eventfile.specs.File.{frontOf, from, parseOf, fieldBytes, recordBytes, Held, Writable}
+use Rattle.eventfile.specs.File.{frontOf, from, parseOf, fieldBytes, recordBytes, Held, Writable, AllWritable}
+use Rattle.eventfile.specs.File.{eventsFrom, eventsOf, Ending, Whole, endFrom, endOf, settingsOf, fileBytes}
 use Rattle.eventfile.specs.declared.types.Parse.the-variants as parse
 use Rattle.eventfile.proofs.FrontLaws.{front-some, by-event}
+use Rattle.eventfile.proofs.ReadLaws.{parse-end}
+use Rattle.eventfile.proofs.FileLaws.{events-end, end-end, events-event, end-event}
 
 -- ---- one field
 
@@ -47,10 +51,10 @@ six : (a b c d e f t : List ℕ)
 six a b c d e f t =
     append-assoc a (b ++ (c ++ (d ++ (e ++ f)))) t
     ∙ ap (λ (z : List ℕ). a ++ z)
-      (append-assoc b (c ++ (d ++ (e ++ f))) t
-      ∙ ap (λ (z : List ℕ). b ++ z)
-        (append-assoc c (d ++ (e ++ f)) t
-        ∙ ap (λ (z : List ℕ). c ++ z) (append-assoc d (e ++ f) t ∙ ap (λ (z : List ℕ). d ++ z) (append-assoc e f t))))
+    (append-assoc b (c ++ (d ++ (e ++ f))) t
+    ∙ ap (λ (z : List ℕ). b ++ z)
+    (append-assoc c (d ++ (e ++ f)) t
+    ∙ ap (λ (z : List ℕ). c ++ z) (append-assoc d (e ++ f) t ∙ ap (λ (z : List ℕ). d ++ z) (append-assoc e f t))))
 
 pub record-length : (map : ℕ) (e : Event) → length (recordBytes map e) ≡ sizeOf map
 unfolding recordBytes
@@ -97,7 +101,7 @@ event-back map e t w =
     let b = recordBytes map e ++ t in
     let b₀ : b ≡ p₀ ++ (s₀ ++ q₀) = λ i. map ∷ e .kind ∷ e .slot ∷ six s₀ s₁ s₂ s₃ s₄ s₅ t i in
     let b₁ : b ≡ p₁ ++ (s₁ ++ q₁) = next p₀ s₀ q₀ b₀ in
-    let b₂ : b ≡ p₂ ++ (s₂ ++ q₂) = next p₁ s₁ q₁ b₁ in
+    let b₂ : b ≡ p₂ ++ (s₂ ++ q₂) = next p₁ s₁ q₁ b₀ in
     let b₃ : b ≡ p₃ ++ (s₃ ++ q₃) = next p₂ s₂ q₂ b₂ in
     let b₄ : b ≡ p₄ ++ (s₄ ++ q₄) = next p₃ s₃ q₃ b₃ in
     let b₅ : b ≡ p₅ ++ (s₅ ++ t) = next p₄ s₄ q₄ b₄ in
@@ -138,3 +142,73 @@ pub read-written : (map : ℕ) (e : Event) (p t : List ℕ) → Writable map e
 unfolding parseOf
 read-written map e p t w =
     λ i. from (length p) ((ap frontOf (drop-append-seam p (recordBytes map e ++ t)) ∙ front-back map e t w) i)
+
+-- ---- a whole file
+
+-- behind any bytes, whatever the fuel where it is enough
+records-back : (f : ℕ) (p : List ℕ) (rs : List (ℕ × Event)) → AllWritable rs
+    → length (p ++ flat (λ r. recordBytes (r .0) (r .1)) rs) ≤ length p + f
+    → (eventsFrom f (p ++ flat (λ r. recordBytes (r .0) (r .1)) rs) (length p) ≡ map (λ r. r .1) rs)
+    × (endFrom f (p ++ flat (λ r. recordBytes (r .0) (r .1)) rs) (length p) ≡ Whole)
+unfolding flat
+records-back f p [] w h =
+    let e = sym (parse-end (p ++ []) (length p) (omega (arith, length-append p []))) in
+    (events-end f (p ++ []) (length p) h e, end-end f (p ++ []) (length p) h e)
+records-back f p (r ∷ rs) w h =
+    let b = recordBytes (r .0) (r .1) in
+    let t = flat (λ r. recordBytes (r .0) (r .1)) rs in
+    let l = p ++ (b ++ t) in
+    let e = read-written (r .0) (r .1) p t (w .0) in
+    let a : (p ++ b) ++ t ≡ l = append-assoc p b t in
+    let n : length (p ++ b) ≡ length p + sizeOf (r .0) = length-append p b ∙ (λ i. length p + record-length (r .0) (r .1) i) in
+    let k = records-back f (p ++ b) rs (w .1) (omega (arith, h, n, ap (λ (z : List ℕ). length z) a)) in (
+      events-event f l (length p) h e ∙ (λ i. r .1 ∷ ((λ j. eventsFrom f (sym a j) (sym n j)) ∙ k .0) i),
+      end-event f l (length p) h e ∙ (λ j. endFrom f (sym a j) (sym n j)) ∙ k .1,
+    )
+
+four : (a b c d t : List ℕ) → (a ++ (b ++ (c ++ (d ++ [])))) ++ t ≡ a ++ (b ++ (c ++ (d ++ t)))
+four a b c d t =
+    append-assoc a (b ++ (c ++ (d ++ []))) t
+    ∙ ap (λ (z : List ℕ). a ++ z)
+    (append-assoc b (c ++ (d ++ [])) t
+    ∙ ap (λ (z : List ℕ). b ++ z) (append-assoc c (d ++ []) t ∙ ap (λ (z : List ℕ). c ++ z) (append-assoc d [] t)))
+
+-- each setting fits its bytes
+abbrev pub AllFit : Settings → Type 0
+AllFit t = (t .cap < 2 ^ 64) × (t .gap < 2 ^ 64) × (t .window < 2 ^ 64) × (t .horizon < 2 ^ 64)
+
+settings-back : (t : Settings) (l : List ℕ) → AllFit t
+    → settingsOf (wordsOf (t .cap ∷ t .gap ∷ t .window ∷ t .horizon ∷ []) ++ l) ≡ t
+unfolding flat
+settings-back t l h =
+    let s₀ = le 8 (t .cap) in
+    let s₁ = le 8 (t .gap) in
+    let s₂ = le 8 (t .window) in
+    let s₃ = le 8 (t .horizon) in
+    let p₂ = s₀ ++ s₁ in
+    let p₃ = p₂ ++ s₂ in
+    let b₀ = four s₀ s₁ s₂ s₃ l in
+    let b₂ = next s₀ s₁ (s₂ ++ (s₃ ++ l)) b₀ in
+    let b₃ = next p₂ s₂ (s₃ ++ l) b₂ in
+    let n₁ = le-length 8 (t .cap) in
+    let n₂ = grown s₀ s₁ n₁ (le-length 8 (t .gap)) in
+    let n₃ = grown p₂ s₂ n₂ (le-length 8 (t .window)) in
+    let f₀ = (λ i. readAt 0 8 (b₀ i)) ∙ read-back 0 8 (t .cap) [] (s₁ ++ (s₂ ++ (s₃ ++ l))) refl (omega arith) (h .0) in
+    let f₁ = (λ i. readAt 8 8 (b₀ i)) ∙ read-back 8 8 (t .gap) s₀ (s₂ ++ (s₃ ++ l)) n₁ (omega arith) (h .1) in
+    let f₂ = (λ i. readAt 16 8 (b₂ i)) ∙ read-back 16 8 (t .window) p₂ (s₃ ++ l) n₂ (omega arith) (h .2) in
+    let f₃ = (λ i. readAt 24 8 (b₃ i)) ∙ read-back 24 8 (t .horizon) p₃ l n₃ (omega arith) (h .3) in
+    λ i. record { cap = f₀ i; gap = f₁ i; window = f₂ i; horizon = f₃ i }
+
+-- a file that was written is read back: its settings, its events, and its end after a whole record
+pub file-back : (t : Settings) (rs : List (ℕ × Event)) → AllFit t → AllWritable rs
+    → (settingsOf (fileBytes t rs) ≡ t) × (eventsOf (fileBytes t rs) ≡ map (λ r. r .1) rs) × (endOf (fileBytes t rs) ≡ Whole)
+unfolding fileBytes eventsOf endOf
+file-back t rs h w =
+    let p = wordsOf (t .cap ∷ t .gap ∷ t .window ∷ t .horizon ∷ []) in
+    let b = flat (λ r. recordBytes (r .0) (r .1)) rs in
+    let n : length p ≡ 32 = flat-length (le 8) 8 (le-length 8) (t .cap ∷ t .gap ∷ t .window ∷ t .horizon ∷ []) in
+    let k = records-back (length (p ++ b)) p rs w (omega arith) in (
+      settings-back t b h,
+      (λ i. eventsFrom (length (p ++ b)) (p ++ b) (sym n i)) ∙ k .0,
+      (λ i. endFrom (length (p ++ b)) (p ++ b) (sym n i)) ∙ k .1,
+    )

@@ -7,7 +7,7 @@ use lib.Dec.{eqb, ltb}
 use lib.ListN.{length, drop, getD}
 use Rattle.base.specs.declared.types.Refusal.{Refusal}
 use Rattle.base.specs.declared.types.Refusal.the-variants as refusal
-use Rattle.octets.specs.Octets.{le, readAt}
+use Rattle.octets.specs.Octets.{le, flat, wordsOf, readAt}
 use Rattle.rules.specs.Event.{Kind, kindNumber, Open, Probe, Answer, Poll, Sample, Fold, Prove, Search, Judge, Data}
 use Rattle.rules.specs.Event.{Fresh, Thaw, Sweep, Close, Choose}
 use Rattle.rules.specs.declared.types.Event.{Event}
@@ -236,3 +236,12 @@ pub record Writable (map : ℕ) (e : Event) : Type 0 where
   pub len : Held 3 2 map (e .len)
   pub acked : Held 4 2 map (e .acked)
   pub flags : Held 5 1 map (e .flags)
+
+-- a file: settings, then the records of some events, each with its map
+unfoldable pub fileBytes : Settings → List (ℕ × Event) → List ℕ
+fileBytes t rs = wordsOf (t .cap ∷ t .gap ∷ t .window ∷ t .horizon ∷ []) ++ flat (λ r. recordBytes (r .0) (r .1)) rs
+
+-- each of these can be written with its map
+abbrev pub AllWritable : List (ℕ × Event) → Type 0
+AllWritable [] = Unit {0}
+AllWritable (r ∷ rs) = Writable (r .0) (r .1) × AllWritable rs
