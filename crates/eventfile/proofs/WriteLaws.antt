@@ -14,7 +14,7 @@ use Rattle.rules.specs.declared.types.Event.{Event}
 use Rattle.rules.specs.declared.types.Settings.{Settings}
 use Rattle.eventfile.specs.File.{stands, bytes, spanAt, idAt, lenAt, ackedAt, flagsAt, sizeOf, field, eventOf}
 use Rattle.eventfile.specs.File.{frontOf, from, parseOf, fieldBytes, recordBytes, Held, Writable, AllWritable}
-use Rattle.eventfile.specs.File.{eventsFrom, eventsOf, Ending, Whole, endFrom, endOf, settingsOf, fileBytes}
+use Rattle.eventfile.specs.File.{eventsFrom, eventsOf, Whole, endFrom, endOf, settingsOf, fileBytes}
 use Rattle.eventfile.specs.declared.types.Parse.the-variants as parse
 use Rattle.eventfile.proofs.FrontLaws.{front-some, by-event}
 use Rattle.eventfile.proofs.ReadLaws.{parse-end}
@@ -127,11 +127,13 @@ event-back map e t w =
       flags = f₅ i;
     }
 
-front-back : (map : ℕ) (e : Event) (t : List ℕ) → Writable map e → frontOf (recordBytes map e ++ t) ≡ parse.Event e (sizeOf map)
+front-back : (map : ℕ) (e : Event) (t : List ℕ) → Writable map e
+    → frontOf (recordBytes map e ++ t) ≡ parse.Event e (sizeOf map)
 unfolding recordBytes
 front-back map e t w =
     let b = recordBytes map e ++ t in
-    let n : length b ≡ sizeOf map + length t = length-append (recordBytes map e) t ∙ (λ i. record-length map e i + length t) in
+    let n : length b ≡ sizeOf map + length t =
+    length-append (recordBytes map e) t ∙ (λ i. record-length map e i + length t) in
     sym (front-some b (omega (arith, n)))
     ∙ sym (by-event map (e .kind) b (omega (arith, n)) (w .kind) (w .bits))
     ∙ (λ i. parse.Event (event-back map e t w i) (sizeOf map))
@@ -160,7 +162,8 @@ records-back f p (r ∷ rs) w h =
     let l = p ++ (b ++ t) in
     let e = read-written (r .0) (r .1) p t (w .0) in
     let a : (p ++ b) ++ t ≡ l = append-assoc p b t in
-    let n : length (p ++ b) ≡ length p + sizeOf (r .0) = length-append p b ∙ (λ i. length p + record-length (r .0) (r .1) i) in
+    let n : length (p ++ b) ≡ length p + sizeOf (r .0) =
+    length-append p b ∙ (λ i. length p + record-length (r .0) (r .1) i) in
     let k = records-back f (p ++ b) rs (w .1) (omega (arith, h, n, ap (λ (z : List ℕ). length z) a)) in (
       events-event f l (length p) h e ∙ (λ i. r .1 ∷ ((λ j. eventsFrom f (sym a j) (sym n j)) ∙ k .0) i),
       end-event f l (length p) h e ∙ (λ j. endFrom f (sym a j) (sym n j)) ∙ k .1,
@@ -201,7 +204,9 @@ settings-back t l h =
 
 -- a file that was written is read back: its settings, its events, and its end after a whole record
 pub file-back : (t : Settings) (rs : List (ℕ × Event)) → AllFit t → AllWritable rs
-    → (settingsOf (fileBytes t rs) ≡ t) × (eventsOf (fileBytes t rs) ≡ map (λ r. r .1) rs) × (endOf (fileBytes t rs) ≡ Whole)
+    → (settingsOf (fileBytes t rs) ≡ t)
+    × (eventsOf (fileBytes t rs) ≡ map (λ r. r .1) rs)
+    × (endOf (fileBytes t rs) ≡ Whole)
 unfolding fileBytes eventsOf endOf
 file-back t rs h w =
     let p = wordsOf (t .cap ∷ t .gap ∷ t .window ∷ t .horizon ∷ []) in

@@ -22,7 +22,11 @@ returns-2 : tie.Need-returns-2
 returns-2 c =
     let d = c .before in
     front-cut
-    (head (d .before .before .before .if1 .left) (d .before .before .byte-at .ensures) (d .before .byte-at2 .ensures) (d .laid-out .ensures))
+    (head
+    (d .before .before .before .if1 .left)
+    (d .before .before .byte-at .ensures)
+    (d .before .byte-at2 .ensures)
+    (d .laid-out .ensures))
     (c .if2 .taken)
 
 is-stray-requires : tie.Need-is-stray-requires
@@ -32,7 +36,11 @@ returns-3 : tie.Need-returns-3
 returns-3 c =
     let d = c .before .before .before in
     front-kind
-    (head (d .before .before .before .if1 .left) (d .before .before .byte-at .ensures) (d .before .byte-at2 .ensures) (d .laid-out .ensures))
+    (head
+    (d .before .before .before .if1 .left)
+    (d .before .before .byte-at .ensures)
+    (d .before .byte-at2 .ensures)
+    (d .laid-out .ensures))
     (c .before .before .if2 .left)
     (c .if3 .taken)
 
@@ -40,7 +48,11 @@ returns-4 : tie.Need-returns-4
 returns-4 c =
     let d = c .before .before .before .before in
     front-map
-    (head (d .before .before .before .if1 .left) (d .before .before .byte-at .ensures) (d .before .byte-at2 .ensures) (d .laid-out .ensures))
+    (head
+    (d .before .before .before .if1 .left)
+    (d .before .before .byte-at .ensures)
+    (d .before .byte-at2 .ensures)
+    (d .laid-out .ensures))
     (c .before .before .before .if2 .left)
     (c .before .if3 .left)
     (sym (c .before .before .is-stray .ensures) ∙ c .if4 .taken)
@@ -52,7 +64,11 @@ returns-5 : tie.Need-returns-5
 returns-5 c =
     let d = c .before .before .before .before .before in
     front-event
-    (head (d .before .before .before .if1 .left) (d .before .before .byte-at .ensures) (d .before .byte-at2 .ensures) (d .laid-out .ensures))
+    (head
+    (d .before .before .before .if1 .left)
+    (d .before .before .byte-at .ensures)
+    (d .before .byte-at2 .ensures)
+    (d .laid-out .ensures))
     (c .before .before .before .before .if2 .left)
     (c .before .before .if3 .left)
     (sym (c .before .before .before .is-stray .ensures) ∙ c .before .if4 .left)
