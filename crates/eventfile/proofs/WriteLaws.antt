@@ -13,8 +13,9 @@ use Rattle.octets.proofs.Fill.{le-length, flat-length}
 use Rattle.rules.specs.declared.types.Event.{Event}
 use Rattle.rules.specs.declared.types.Settings.{Settings}
 use Rattle.eventfile.specs.File.{stands, bytes, spanAt, idAt, lenAt, ackedAt, flagsAt, sizeOf, field, eventOf}
-use Rattle.eventfile.specs.File.{frontOf, from, parseOf, fieldBytes, recordBytes, Held, Writable, AllWritable}
-use Rattle.eventfile.specs.File.{eventsFrom, eventsOf, Whole, endFrom, endOf, settingsOf, fileBytes}
+use Rattle.eventfile.specs.File.{settingsOf, frontOf, from, parseOf, eventsFrom, eventsOf, Whole, endFrom, endOf}
+use Rattle.eventfile.specs.Writer.{fieldBytes, recordBytes, Held, Writable, fileBytes, AllWritable, AllFit}
+use Rattle.eventfile.specs.Writer.{RecordsReadBack, FilesReadBack}
 use Rattle.eventfile.specs.declared.types.Parse.the-variants as parse
 use Rattle.eventfile.proofs.FrontLaws.{front-some, by-event}
 use Rattle.eventfile.proofs.ReadLaws.{parse-end}
@@ -139,8 +140,7 @@ front-back map e t w =
     ∙ (λ i. parse.Event (event-back map e t w i) (sizeOf map))
 
 -- the record of an event is read back, with any bytes before it and behind it
-pub read-written : (map : ℕ) (e : Event) (p t : List ℕ) → Writable map e
-    → parseOf (p ++ (recordBytes map e ++ t)) (length p) ≡ parse.Event e (length p + sizeOf map)
+pub read-written : RecordsReadBack
 unfolding parseOf
 read-written map e p t w =
     λ i. from (length p) ((ap frontOf (drop-append-seam p (recordBytes map e ++ t)) ∙ front-back map e t w) i)
@@ -176,10 +176,6 @@ four a b c d t =
     (append-assoc b (c ++ (d ++ [])) t
     ∙ ap (λ (z : List ℕ). b ++ z) (append-assoc c (d ++ []) t ∙ ap (λ (z : List ℕ). c ++ z) (append-assoc d [] t)))
 
--- each setting fits its bytes
-abbrev pub AllFit : Settings → Type 0
-AllFit t = (t .cap < 2 ^ 64) × (t .gap < 2 ^ 64) × (t .window < 2 ^ 64) × (t .horizon < 2 ^ 64)
-
 settings-back : (t : Settings) (l : List ℕ) → AllFit t
     → settingsOf (wordsOf (t .cap ∷ t .gap ∷ t .window ∷ t .horizon ∷ []) ++ l) ≡ t
 unfolding flat
@@ -203,10 +199,7 @@ settings-back t l h =
     λ i. record { cap = f₀ i; gap = f₁ i; window = f₂ i; horizon = f₃ i }
 
 -- a file that was written is read back: its settings, its events, and its end after a whole record
-pub file-back : (t : Settings) (rs : List (ℕ × Event)) → AllFit t → AllWritable rs
-    → (settingsOf (fileBytes t rs) ≡ t)
-    × (eventsOf (fileBytes t rs) ≡ map (λ r. r .1) rs)
-    × (endOf (fileBytes t rs) ≡ Whole)
+pub file-back : FilesReadBack
 unfolding fileBytes eventsOf endOf
 file-back t rs h w =
     let p = wordsOf (t .cap ∷ t .gap ∷ t .window ∷ t .horizon ∷ []) in

@@ -1,6 +1,7 @@
 // Event files: settings and records, from lent bytes.
 ghost use mathlib.Core.Path.{_≡_};
 ghost use Rattle.eventfile.specs.File.{settingsOf, isStray, frontOf, parseOf};
+ghost use Rattle.eventfile.specs.Writer.{RecordsReadBack, FilesReadBack};
 use crate::places::*;
 use crate::types::*;
 use base::types::Refusal;
@@ -80,3 +81,8 @@ pub fn record_at(s: &[u8], at: usize) -> Parse
         Parse::Refused(why, kind) => Parse::Refused(why, kind),
     }
 }
+
+// The writer's law: what was written is read back, one record among any bytes and a whole file.
+pub fn reads_back()
+    ensures { λ r. ⌜ RecordsReadBack × FilesReadBack ⌝ }
+{}
