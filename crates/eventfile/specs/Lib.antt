@@ -1,0 +1,3 @@
+-- Event files: settings, records, the whole of a file; and the writer.
+pub mod File
+pub mod Writer
