@@ -21,7 +21,8 @@ pub fn search(s: Slot, e: Event) -> Turn
     ensures { λ r. ⌜ r ≡ searched (seekSizeOf (s .path) (s .label .full) (e .now)) s e ⌝ }
 {
     let path = s.path;
-    let a = path.seek_size(s.label.full as u32, e.now);
+    let full = s.label.full as u32;
+    let a = path.seek_size(full, e.now);
     if a.is_accepted() {
         let d = path.seek_send(e.now, len_in(a), e.id);
         return turn_by(s, d);

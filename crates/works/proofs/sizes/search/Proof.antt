@@ -6,8 +6,8 @@ use borrow.Author.Needs.{needs}
 use Rattle.works.proofs.sizes.search.Statement.{statement}
 use Rattle.works.proofs.sizes.search.Tie as tie
 
-cast-seek-size : tie.Need-cast-seek-size
-cast-seek-size c = search needs
+cast-full : tie.Need-cast-full
+cast-full c = search needs
 
 seek-size-requires : tie.Need-seek-size-requires
 seek-size-requires c κs = search needs
@@ -40,7 +40,7 @@ pub search-spec : {M : Type 1} → statement M
 search-spec =
     tie.close
     (tie.spec
-    cast-seek-size
+    cast-full
     seek-size-requires
     is-accepted-requires
     len-in-requires
