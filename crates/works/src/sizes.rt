@@ -4,7 +4,6 @@ ghost use Rattle.live.specs.Search.{proveOf, freshOf, seekSizeOf, seekJudgeOf};
 ghost use Rattle.rules.specs.Rules.{turn, turnBy, searched};
 ghost use Rattle.rules.specs.declared.types.Reply.the-variants.{Nothing};
 use crate::turned::*;
-use live::types::*;
 use rules::types::*;
 
 // Prove.

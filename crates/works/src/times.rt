@@ -5,7 +5,6 @@ ghost use Rattle.rules.specs.Event.{bit};
 ghost use Rattle.rules.specs.Rules.{turn};
 ghost use Rattle.rules.specs.declared.types.Reply.the-variants.{Nothing};
 use crate::turned::*;
-use live::types::*;
 use rules::types::*;
 
 // Sample.
