@@ -52,7 +52,7 @@ at-any (x ∷ l) (suc i) d d₂ h = at-any l i d d₂ (omega arith)
 module _ (r : Record) (i : ℕ) (l : List ℕ) where
   pub slot-above : 7 < i → (written.Refused refusal.Slot ≡ slotWritten r i (length l)) × (l ≡ slotOut r i l)
   unfolding slotWritten slotOut
-  slot-above h = (rw (lt-ltb 7 i h), rw (lt-ltb 7 i h))
+  slot-above h = (simp (lt-ltb 7 i h), simp (lt-ltb 7 i h))
 
   module _ (h : i ≤ 7) (eight : length (r .slots) ≡ 8) (d : Slot) where
     inside : slotAt r i ≡ getD (r .slots) i d
@@ -63,7 +63,7 @@ module _ (r : Record) (i : ℕ) (l : List ℕ) where
     unfolding slotWritten slotOut
     slot-empty e =
         let u : slotAt r i .used ≡ false = ap (λ (s : Slot). s .used) inside ∙ e in
-        (rw (le-ltb 7 i h, u), rw (le-ltb 7 i h, u))
+        (simp (le-ltb 7 i h, u), simp (le-ltb 7 i h, u))
 
     pub slot-told : getD (r .slots) i d .used ≡ true → {s : Standing} → s ≡ standingOf (getD (r .slots) i d .path)
         → {w : Written} {m : List ℕ} → (w ≡ writtenOf s (length l)) × (m ≡ over (bytesOf s) l)
