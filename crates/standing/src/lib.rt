@@ -10,7 +10,7 @@ use live::types::Liveness;
 use rules::types::*;
 use types::*;
 
-pub mod fields;
+pub mod layout;
 pub mod types;
 
 // What is told of a path.
@@ -70,7 +70,7 @@ fn total(parts: [Field; 9]) -> usize
 pub fn size(s: Standing) -> usize
     ensures { λ r. ⌜ (r ≡ length (bytesOf s)) × (r ≤ 51) ⌝ }
 {
-    let parts = fields::parts(s);
+    let parts = layout::parts(s);
     total(parts)
 }
 
@@ -79,7 +79,7 @@ pub fn size(s: Standing) -> usize
 pub fn write(s: Standing, out: &mut [u8]) -> Written
     ensures { λ r. ⌜ (r ≡ writtenOf s (length (now (out .entry)))) × (now (out .exit) ≡ over (bytesOf s) (now (out .entry))) ⌝ }
 {
-    let parts = fields::parts(s);
+    let parts = layout::parts(s);
     if out.len() < total(parts) {
         return Written::Refused(Refusal::Lent);
     }

@@ -1,8 +1,8 @@
--- `standing::fields::time_field` meets its contract.
+-- `standing::layout::time_field` meets its contract.
 -- Assumes nothing.
 use borrow.Author.Needs.{needs}
-use Rattle.standing.proofs.fields.time_field.Statement.{statement}
-use Rattle.standing.proofs.fields.time_field.Tie as tie
+use Rattle.standing.proofs.layout.time_field.Statement.{statement}
+use Rattle.standing.proofs.layout.time_field.Tie as tie
 
 enum-told : tie.Need-enum-told
 enum-told c = search needs

@@ -1,8 +1,8 @@
--- `standing::fields::parts` meets its contract.
+-- `standing::layout::parts` meets its contract.
 -- Assumes nothing.
 use borrow.Author.Needs.{needs}
-use Rattle.standing.proofs.fields.parts.Statement.{statement}
-use Rattle.standing.proofs.fields.parts.Tie as tie
+use Rattle.standing.proofs.layout.parts.Statement.{statement}
+use Rattle.standing.proofs.layout.parts.Tie as tie
 
 time-field-requires : tie.Need-time-field-requires
 time-field-requires c κs = search needs

@@ -1,8 +1,8 @@
--- `standing::fields::len_field` meets its contract.
+-- `standing::layout::id_field` meets its contract.
 -- Assumes nothing.
 use borrow.Author.Needs.{needs}
-use Rattle.standing.proofs.fields.len_field.Statement.{statement}
-use Rattle.standing.proofs.fields.len_field.Tie as tie
+use Rattle.standing.proofs.layout.id_field.Statement.{statement}
+use Rattle.standing.proofs.layout.id_field.Tie as tie
 
 enum-told : tie.Need-enum-told
 enum-told c = search needs
@@ -22,6 +22,6 @@ returns c = simp (c .enum-told .given .1)
 returns-2 : tie.Need-returns-2
 returns-2 c = simp (c .before .before .x .given .1, c .whole .ensures)
 
-pub len-field-spec : {M : Type 1} → statement M
-len-field-spec =
+pub id-field-spec : {M : Type 1} → statement M
+id-field-spec =
     tie.close (tie.spec enum-told enum-known-x cast-whole whole-requires returns returns-2)
