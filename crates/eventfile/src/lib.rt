@@ -7,7 +7,7 @@ use base::types::Refusal;
 use octets::get;
 use rules::types::Settings;
 
-pub mod fields;
+mod fields;
 pub mod types;
 
 // The four settings that a file begins with; 0 for one that is not whole.
@@ -62,10 +62,12 @@ fn front(s: &[u8]) -> Parse
     if s.len() < size {
         return Parse::Refused(Refusal::Cut, kind);
     }
-    if is_kindless(kind) {
+    let kindless = is_kindless(kind);
+    let stray = is_stray(map, kind);
+    if kindless {
         return Parse::Refused(Refusal::Kind, kind);
     }
-    if is_stray(map, kind) {
+    if stray {
         return Parse::Refused(Refusal::Map, kind);
     }
     Parse::Event(event_of(s, map, kind), size)
