@@ -1,6 +1,6 @@
 -- What a file of events gives to a caller: the answer of each event, then the standings of the paths that are open at
 -- the end (document 01, "Files and tail"; "calls ours as C functions on numbers and bytes").
-use Prim.Native.Nat.{ℕ, suc}
+use Prim.Native.Nat.{ℕ, suc, _+_}
 use mathlib.Core.Bool.{true, cond}
 use mathlib.Core.Path.{_≡_}
 use mathlib.Core.List.{List, [], _∷_, _++_}
@@ -30,6 +30,10 @@ entryBytes x = wordsOf (x .number ∷ x .value ∷ [])
 -- an open slot: its number, u8, and its path's standing; an empty one gives nothing
 unfoldable pub slotBytes : ℕ → Slot → List ℕ
 slotBytes i s = cond (s .used) (le 1 i ++ bytesOf (standingOf (s .path))) []
+
+-- how many bytes that is, whatever the number
+abbrev pub slotSize : Slot → ℕ
+slotSize s = cond (s .used) (1 + length (bytesOf (standingOf (s .path)))) 0
 
 -- the slots from number i on
 unfoldable pub standingsFrom : ℕ → List Slot → List ℕ

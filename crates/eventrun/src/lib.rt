@@ -38,13 +38,13 @@ fn plan(file: &[u8]) -> Scan
             end: Verdict::Bad(Refusal::Cut),
         };
     }
-    match reply {
-        Reply::Nothing => passes::scan(file, next),
-        _ => Scan {
-            rec: next,
-            count: 0,
-            end: Verdict::Bad(Refusal::Duration),
-        },
+    if turns::reply::number_of(reply) == 0 {
+        return passes::scan(file, next);
+    }
+    Scan {
+        rec: next,
+        count: 0,
+        end: Verdict::Bad(Refusal::Duration),
     }
 }
 
@@ -74,7 +74,7 @@ pub fn run_events(file: &[u8], out: &mut [u8]) -> Written
         Verdict::Bad(why) => Written::Refused(why),
         Verdict::Whole => {
             if fits(count, told, out.len()) {
-                passes::write_answers(file, first(file), &mut out[0..]);
+                passes::write_answers(file, first(file), out);
                 let at = 16 * count;
                 slots::write_slots(slots, &mut out[at..]);
                 return Written::Count(at + told);

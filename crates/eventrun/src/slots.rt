@@ -3,12 +3,12 @@ ghost use mathlib.Core.Path.{_≡_};
 ghost use Prim.Native.Nat.{_≤_};
 ghost use lib.ListN.{length};
 ghost use Rattle.octets.specs.Octets.{over};
-ghost use Rattle.eventrun.specs.Runs.{slotBytes, standingsOf};
+ghost use Rattle.eventrun.specs.Runs.{slotBytes, slotSize, standingsOf};
 use rules::types::*;
 
 // The bytes of a slot: none where it is empty.
 fn slot_size(s: Slot) -> usize
-    ensures { λ r. ⌜ (r ≡ length (slotBytes 0 s)) × (r ≤ 52) ⌝ }
+    ensures { λ r. ⌜ (r ≡ slotSize s) × (r ≤ 52) ⌝ }
 {
     let path = s.path;
     if s.used {
@@ -34,7 +34,7 @@ pub fn slots_size(slots: [Slot; 8]) -> usize
 // Writes the number of an open slot and its standing over the front of `out`, or nothing where they do not fit; says
 // how many bytes they have.
 fn write_slot(i: usize, s: Slot, out: &mut [u8]) -> usize
-    ensures { λ r. ⌜ (r ≡ length (slotBytes i s)) × (now (out .exit) ≡ over (slotBytes i s) (now (out .entry))) ⌝ }
+    ensures { λ r. ⌜ (r ≡ slotSize s) × (now (out .exit) ≡ over (slotBytes i s) (now (out .entry))) ⌝ }
 {
     let n = slot_size(s);
     if out.len() < n {
@@ -44,6 +44,7 @@ fn write_slot(i: usize, s: Slot, out: &mut [u8]) -> usize
         let path = s.path;
         octets::put(&mut out[0..], 1, i as u64);
         standing::write(standing::standing_of(path), &mut out[1..]);
+        return n;
     }
     n
 }
