@@ -52,61 +52,61 @@ answering-start l r l₀ h =
     }
 
 module _ {l : List ℕ} {r₀ : Record} {l₀ out : List ℕ} {r : Record} {from at : ℕ} (s : Answering l r₀ l₀ out r from at)
-    where
-  enough : length l ≤ from + length l
-  enough = omega arith
+  where
+    enough : length l ≤ from + length l
+    enough = omega arith
 
-  pub answering-inside : at ≤ length out
-  answering-inside = omega (arith, filled-length (s .filled), s .filled .room)
+    pub answering-inside : at ≤ length out
+    answering-inside = omega (arith, filled-length (s .filled), s .filled .room)
 
-  -- nothing is left to write
-  ended : flat entryBytes (take ((length l₀ - at) / 16) (trace r (eventsFrom (length l) l from))) ≡ []
-      → out ≡ over (answersIn l r₀ (length l₀)) l₀
-  ended e =
-      filled-over (s .filled)
-      ∙ ap (λ (z : List ℕ). over z l₀)
-      (sym (append-nil (s .front)) ∙ ap (λ (z : List ℕ). s .front ++ z) (sym e) ∙ s .is)
+    -- nothing is left to write
+    ended : flat entryBytes (take ((length l₀ - at) / 16) (trace r (eventsFrom (length l) l from))) ≡ []
+        → out ≡ over (answersIn l r₀ (length l₀)) l₀
+    ended e =
+        filled-over (s .filled)
+        ∙ ap (λ (z : List ℕ). over z l₀)
+        (sym (append-nil (s .front)) ∙ ap (λ (z : List ℕ). s .front ++ z) (sym e) ∙ s .is)
 
-  pub answering-end : {p : Parse} → p ≡ parseOf l from → p ≡ parse.End → out ≡ over (answersIn l r₀ (length l₀)) l₀
-  answering-end {p} a b =
-      let e = events-end (length l) l from enough (sym a ∙ b) in
-      ended ((λ i. flat entryBytes (take ((length l₀ - at) / 16) (trace r (e i)))) ∙ take-none ((length l₀ - at) / 16))
+    pub answering-end : {p : Parse} → p ≡ parseOf l from → p ≡ parse.End → out ≡ over (answersIn l r₀ (length l₀)) l₀
+    answering-end {p} a b =
+        let e = events-end (length l) l from enough (sym a ∙ b) in
+        ended ((λ i. flat entryBytes (take ((length l₀ - at) / 16) (trace r (e i)))) ∙ take-none ((length l₀ - at) / 16))
 
-  pub answering-refused : {p : Parse} {why : Refusal} {kind : ℕ} → p ≡ parseOf l from → p ≡ parse.Refused why kind
-      → out ≡ over (answersIn l r₀ (length l₀)) l₀
-  answering-refused {p} a b =
-      let e = events-refused (length l) l from enough (sym a ∙ b) in
-      ended ((λ i. flat entryBytes (take ((length l₀ - at) / 16) (trace r (e i)))) ∙ take-none ((length l₀ - at) / 16))
+    pub answering-refused : {p : Parse} {why : Refusal} {kind : ℕ} → p ≡ parseOf l from → p ≡ parse.Refused why kind
+        → out ≡ over (answersIn l r₀ (length l₀)) l₀
+    answering-refused {p} a b =
+        let e = events-refused (length l) l from enough (sym a ∙ b) in
+        ended ((λ i. flat entryBytes (take ((length l₀ - at) / 16) (trace r (e i)))) ∙ take-none ((length l₀ - at) / 16))
 
-  pub answering-full : length out - at < 16 → out ≡ over (answersIn l r₀ (length l₀)) l₀
-  unfolding flat
-  answering-full h =
-      let z : (length l₀ - at) / 16 ≡ 0 = omega (arith, filled-length (s .filled)) in
-      ended (λ i. flat entryBytes (take (z i) (trace r (eventsFrom (length l) l from))))
+    pub answering-full : length out - at < 16 → out ≡ over (answersIn l r₀ (length l₀)) l₀
+    unfolding flat
+    answering-full h =
+        let z : (length l₀ - at) / 16 ≡ 0 = omega (arith, filled-length (s .filled)) in
+        ended (λ i. flat entryBytes (take (z i) (trace r (eventsFrom (length l) l from))))
 
-  pub answering-next : 16 ≤ length out - at → {p : Parse} {e : Event} {next : ℕ} {o : Stepped} {number value : ℕ} {m : List ℕ}
-      → p ≡ parseOf l from → p ≡ parse.Event e next → o ≡ step r e → number ≡ numberOf (o .reply)
-      → value ≡ valueOf (o .reply) → m ≡ over (wordsOf (number ∷ value ∷ [])) (midOf at (length out - at) out)
-      → Answering l r₀ l₀ (putMid at (length out - at) out m) (o .next) next (at + 16)
-  unfolding flat
-  answering-next h {p} {e} {next} {o} {number} {value} {m} a b c f g d =
-      let w = wordsOf (number ∷ value ∷ []) in
-      let z : length w ≡ 16 = words-two number value in
-      let n = filled-length (s .filled) in
-      let k : (length l₀ - at) / 16 ≡ suc ((length l₀ - (at + 16)) / 16) = omega (arith, n, h) in
-      let v = events-event (length l) l from enough (sym a ∙ b) in
-      let es = eventsFrom (length l) l next in
-      let more : Record → List ℕ = λ (q : Record). flat entryBytes (take ((length l₀ - (at + 16)) / 16) (trace q es)) in
-      let y : wordsOf (numberOf (step r e .reply) ∷ valueOf (step r e .reply) ∷ []) ≡ w =
-      (λ i. wordsOf (numberOf (sym c i .reply) ∷ valueOf (sym c i .reply) ∷ []))
-      ∙ (λ i. wordsOf (sym f i ∷ sym g i ∷ [])) in
-      record {
-        narrow = s .narrow;
-        front = s .front ++ w;
-        filled = rw (sym z) (fill w (s .filled) (omega (arith, z, n, h)) d);
-        is =
-            append-assoc (s .front) w (more (o .next))
-            ∙ (λ i. s .front ++ (sym y i ++ more (c i .next)))
-            ∙ (λ i. s .front ++ flat entryBytes (take (sym k i) (trace r (sym v i))))
-            ∙ s .is;
-      }
+    pub answering-next : 16 ≤ length out - at → {p : Parse} {e : Event} {next : ℕ} {o : Stepped} {number value : ℕ} {m : List ℕ}
+        → p ≡ parseOf l from → p ≡ parse.Event e next → o ≡ step r e → number ≡ numberOf (o .reply)
+        → value ≡ valueOf (o .reply) → m ≡ over (wordsOf (number ∷ value ∷ [])) (midOf at (length out - at) out)
+        → Answering l r₀ l₀ (putMid at (length out - at) out m) (o .next) next (at + 16)
+    unfolding flat
+    answering-next h {p} {e} {next} {o} {number} {value} {m} a b c f g d =
+        let w = wordsOf (number ∷ value ∷ []) in
+        let z : length w ≡ 16 = words-two number value in
+        let n = filled-length (s .filled) in
+        let k : (length l₀ - at) / 16 ≡ suc ((length l₀ - (at + 16)) / 16) = omega (arith, n, h) in
+        let v = events-event (length l) l from enough (sym a ∙ b) in
+        let es = eventsFrom (length l) l next in
+        let more : Record → List ℕ = λ (q : Record). flat entryBytes (take ((length l₀ - (at + 16)) / 16) (trace q es)) in
+        let y : wordsOf (numberOf (step r e .reply) ∷ valueOf (step r e .reply) ∷ []) ≡ w =
+        (λ i. wordsOf (numberOf (sym c i .reply) ∷ valueOf (sym c i .reply) ∷ []))
+        ∙ (λ i. wordsOf (sym f i ∷ sym g i ∷ [])) in
+        record {
+          narrow = s .narrow;
+          front = s .front ++ w;
+          filled = rw (sym z) (fill w (s .filled) (omega (arith, z, n, h)) d);
+          is =
+              append-assoc (s .front) w (more (o .next))
+              ∙ (λ i. s .front ++ (sym y i ++ more (c i .next)))
+              ∙ (λ i. s .front ++ flat entryBytes (take (sym k i) (trace r (sym v i))))
+              ∙ s .is;
+        }

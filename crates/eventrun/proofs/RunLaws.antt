@@ -111,6 +111,7 @@ plan-whole file = go (ltb (length file) 32) (allowed (settingsOf file))
   where
     first : Record
     first = freshRecord (settingsOf file)
+
     go : (a b : Bool)
         → cond a (stopped first refusal.Cut) (cond b (scanOf file first) (stopped first refusal.Duration)) .end ≡ verdict.Whole
         → cond a (stopped first refusal.Cut) (cond b (scanOf file first) (stopped first refusal.Duration)) ≡ scanOf file first
@@ -130,78 +131,77 @@ answers-length l = flat-length entryBytes 16 (λ x. words-two (x .number) (x .va
 -- what a whole plan knows
 module _ (file l : List ℕ) {p : Scan} {told : ℕ} (e : p ≡ planOf file) (q : p .end ≡ verdict.Whole)
     (t : told ≡ length (standingsOf (p .rec .slots)))
-    where
-  plain : p ≡ scanOf file (freshRecord (settingsOf file))
-  plain = e ∙ plan-whole file (ap (λ (s : Scan). s .end) (sym e) ∙ q)
+  where
+    plain : p ≡ scanOf file (freshRecord (settingsOf file))
+    plain = e ∙ plan-whole file (ap (λ (s : Scan). s .end) (sym e) ∙ q)
 
-  is-count : p .count ≡ length (eventsOf file)
-  unfolding scanOf
-  is-count = ap (λ (s : Scan). s .count) plain
+    is-count : p .count ≡ length (eventsOf file)
+    unfolding scanOf
+    is-count = ap (λ (s : Scan). s .count) plain
 
-  is-rec : p .rec ≡ run (freshRecord (settingsOf file)) (eventsOf file)
-  unfolding scanOf
-  is-rec = ap (λ (s : Scan). s .rec) plain
+    is-rec : p .rec ≡ run (freshRecord (settingsOf file)) (eventsOf file)
+    unfolding scanOf
+    is-rec = ap (λ (s : Scan). s .rec) plain
 
-  abbrev pub all : List Entry
-  all = trace (freshRecord (settingsOf file)) (eventsOf file)
+    abbrev pub all : List Entry
+    all = trace (freshRecord (settingsOf file)) (eventsOf file)
 
-  answers-are : length (flat entryBytes all) ≡ 16 * p .count
-  answers-are = answers-length all ∙ ap (λ (n : ℕ). 16 * n) (trace-length _ (eventsOf file) ∙ sym is-count)
+    answers-are : length (flat entryBytes all) ≡ 16 * p .count
+    answers-are = answers-length all ∙ ap (λ (n : ℕ). 16 * n) (trace-length _ (eventsOf file) ∙ sym is-count)
 
-  output-is : flat entryBytes all ++ standingsOf (p .rec .slots) ≡ outputOf file
-  unfolding outputOf
-  output-is = ap (λ (r : Record). flat entryBytes all ++ standingsOf (r .slots)) is-rec
+    output-is : flat entryBytes all ++ standingsOf (p .rec .slots) ≡ outputOf file
+    unfolding outputOf
+    output-is = ap (λ (r : Record). flat entryBytes all ++ standingsOf (r .slots)) is-rec
 
-  output-length : 16 * p .count + told ≡ length (outputOf file)
-  output-length =
-      (λ i. sym answers-are i + t i)
-      ∙ sym (length-append (flat entryBytes all) (standingsOf (p .rec .slots)))
-      ∙ ap length output-is
+    output-length : 16 * p .count + told ≡ length (outputOf file)
+    output-length =
+        (λ i. sym answers-are i + t i)
+        ∙ sym (length-append (flat entryBytes all) (standingsOf (p .rec .slots)))
+        ∙ ap length output-is
 
-  ran-whole : ranOf file (length l) ≡ fit (outputOf file) (length l)
-  ran-whole = ran-by file (length l) ∙ (λ i. endedBy ((ap (λ (s : Scan). s .end) (sym e) ∙ q) i) (fit (outputOf file) (length l)))
+    ran-whole : ranOf file (length l) ≡ fit (outputOf file) (length l)
+    ran-whole = ran-by file (length l) ∙ (λ i. endedBy ((ap (λ (s : Scan). s .end) (sym e) ∙ q) i) (fit (outputOf file) (length l)))
 
-  -- 16
-  pub run-lent : {b : Bool} → b ≡ leb (16 * p .count + told) (length l) → b ≡ false
-      → (written.Refused refusal.Lent ≡ ranOf file (length l)) × (l ≡ outOf file l)
-  unfolding outOf
-  run-lent {b} a f =
-      let z : leb (length (outputOf file)) (length l) ≡ false = (λ i. leb (sym output-length i) (length l)) ∙ sym a ∙ f in
-      let k : ranOf file (length l) ≡ written.Refused refusal.Lent = ran-whole ∙ (λ i. cond (z i) (written.Count (length (outputOf file))) (written.Refused refusal.Lent)) in
-      (sym k, λ i. outBy (sym k i) (over (outputOf file) l) l)
-
-  -- all is written
-  module _ {b : Bool} (a : b ≡ leb (16 * p .count + told) (length l)) (f : b ≡ true) where
-    pub run-room : 16 * p .count + told ≤ length l
-    run-room = leb-true (16 * p .count + told) (length l) (sym a ∙ f)
-
-    taken : answersIn file (freshRecord (settingsOf file)) (length l) ≡ flat entryBytes all
-    taken = ap (flat entryBytes) (take-all (length l / 16) all (omega (arith, run-room, is-count, trace-length (freshRecord (settingsOf file)) (eventsOf file))))
-
-    pub run-answers : {r : Record} {l₁ : List ℕ} → r ≡ freshRecord (settingsOf file) → l₁ ≡ over (answersIn file r (length l)) l
-        → Filled l (flat entryBytes all) l₁ (16 * p .count)
-    run-answers {r} {l₁} g h =
-        let k : l₁ ≡ over (flat entryBytes all) l = h ∙ (λ i. over (answersIn file (g i) (length l)) l) ∙ ap (λ (z : List ℕ). over z l) taken in
-        record {
-          long = answers-are;
-          room = omega (arith, run-room);
-          is = k ∙ over-fits (flat entryBytes all) l (omega (arith, answers-are, run-room)) ∙ ap (λ (n : ℕ). flat entryBytes all ++ drop n l) answers-are;
-        }
-
-    pub run-whole : {l₁ m : List ℕ} → Filled l (flat entryBytes all) l₁ (16 * p .count)
-        → m ≡ over (standingsOf (p .rec .slots)) (midOf (16 * p .count) (length l₁ - 16 * p .count) l₁)
-        → (written.Count (16 * p .count + told) ≡ ranOf file (length l))
-        × (putMid (16 * p .count) (length l₁ - 16 * p .count) l₁ m ≡ outOf file l)
+    -- 16
+    pub run-lent : {b : Bool} → b ≡ leb (16 * p .count + told) (length l) → b ≡ false
+        → (written.Refused refusal.Lent ≡ ranOf file (length l)) × (l ≡ outOf file l)
     unfolding outOf
-    run-whole {l₁} {m} g h =
-        let n = output-length in
-        let z : leb (length (outputOf file)) (length l) ≡ true = le-leb (length (outputOf file)) (length l) (omega (arith, n, run-room)) in
-        let k : ranOf file (length l) ≡ written.Count (length (outputOf file)) = ran-whole ∙ (λ i. cond (z i) (written.Count (length (outputOf file))) (written.Refused refusal.Lent)) in
-        let x = fill (standingsOf (p .rec .slots)) g (omega (arith, t, run-room)) h in
-        (
-          ap (λ (c : ℕ). written.Count c) n ∙ sym k,
-          filled-over x ∙ ap (λ (c : List ℕ). over c l) output-is ∙ (λ i. outBy (sym k i) (over (outputOf file) l) l),
-        )
+    run-lent {b} a f =
+        let z : leb (length (outputOf file)) (length l) ≡ false = (λ i. leb (sym output-length i) (length l)) ∙ sym a ∙ f in
+        let k : ranOf file (length l) ≡ written.Refused refusal.Lent = ran-whole ∙ (λ i. cond (z i) (written.Count (length (outputOf file))) (written.Refused refusal.Lent)) in
+        (sym k, λ i. outBy (sym k i) (over (outputOf file) l) l)
+
+    -- all is written
+    module _ {b : Bool} (a : b ≡ leb (16 * p .count + told) (length l)) (f : b ≡ true) where
+      pub run-room : 16 * p .count + told ≤ length l
+      run-room = leb-true (16 * p .count + told) (length l) (sym a ∙ f)
+
+      taken : answersIn file (freshRecord (settingsOf file)) (length l) ≡ flat entryBytes all
+      taken = ap (flat entryBytes) (take-all (length l / 16) all (omega (arith, run-room, is-count, trace-length (freshRecord (settingsOf file)) (eventsOf file))))
+
+      pub run-answers : {r : Record} {l₁ : List ℕ} → r ≡ freshRecord (settingsOf file) → l₁ ≡ over (answersIn file r (length l)) l
+          → Filled l (flat entryBytes all) l₁ (16 * p .count)
+      run-answers {r} {l₁} g h =
+          let k : l₁ ≡ over (flat entryBytes all) l = h ∙ (λ i. over (answersIn file (g i) (length l)) l) ∙ ap (λ (z : List ℕ). over z l) taken in
+          record {
+            long = answers-are;
+            room = omega (arith, run-room);
+            is = k ∙ over-fits (flat entryBytes all) l (omega (arith, answers-are, run-room)) ∙ ap (λ (n : ℕ). flat entryBytes all ++ drop n l) answers-are;
+          }
+
+      pub run-whole : {l₁ m : List ℕ} → Filled l (flat entryBytes all) l₁ (16 * p .count)
+          → m ≡ over (standingsOf (p .rec .slots)) (midOf (16 * p .count) (length l₁ - 16 * p .count) l₁)
+          → (written.Count (16 * p .count + told) ≡ ranOf file (length l))
+          × (putMid (16 * p .count) (length l₁ - 16 * p .count) l₁ m ≡ outOf file l)
+      unfolding outOf
+      run-whole {l₁} {m} g h =
+          let n = output-length in
+          let z : leb (length (outputOf file)) (length l) ≡ true = le-leb (length (outputOf file)) (length l) (omega (arith, n, run-room)) in
+          let k : ranOf file (length l) ≡ written.Count (length (outputOf file)) = ran-whole ∙ (λ i. cond (z i) (written.Count (length (outputOf file))) (written.Refused refusal.Lent)) in
+          let x = fill (standingsOf (p .rec .slots)) g (omega (arith, t, run-room)) h in (
+            ap (λ (c : ℕ). written.Count c) n ∙ sym k,
+            filled-over x ∙ ap (λ (c : List ℕ). over c l) output-is ∙ (λ i. outBy (sym k i) (over (outputOf file) l) l),
+          )
 
 -- ---- whether all fits
 

@@ -88,12 +88,11 @@ slot-told i s l {n} u e h {m₁} a {t} {m₂} q b =
 -- how many bytes one slot has
 pub size-open : (s : Slot) {t : Standing} {n : ℕ} → s .used ≡ true → t ≡ standingOf (s .path)
     → (n ≡ length (bytesOf t)) × (n ≤ 51) → (1 + n ≡ slotSize s) × (1 + n ≤ 52)
-size-open s {t} {n} u q e =
-    (
-      (λ j. 1 + e .0 j) ∙ (λ j. 1 + length (bytesOf (q j)))
+size-open s {t} {n} u q e = (
+  (λ j. 1 + e .0 j) ∙ (λ j. 1 + length (bytesOf (q j)))
       ∙ (λ j. cond (sym u j) (1 + length (bytesOf (standingOf (s .path)))) 0),
-      omega (arith, e .1),
-    )
+  omega (arith, e .1),
+)
 
 pub size-empty : (s : Slot) → s .used ≡ false → (0 ≡ slotSize s) × (0 ≤ 52)
 size-empty s u = (λ j. cond (sym u j) (1 + length (bytesOf (standingOf (s .path)))) 0, omega arith)

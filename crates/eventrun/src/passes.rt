@@ -70,7 +70,10 @@ pub fn write_answers(file: &[u8], rec: Record, out: &mut [u8])
             Parse::Event(e, next) => {
                 let stepped = peer::record::event(cur, e);
                 let reply = stepped.reply;
-                let words = [turns::reply::number_of(reply), turns::reply::value_of(reply)];
+                let words = [
+                    turns::reply::number_of(reply),
+                    turns::reply::value_of(reply),
+                ];
                 octets::put_words(&mut out[at..], &words);
                 cur = stepped.next;
                 from = next;

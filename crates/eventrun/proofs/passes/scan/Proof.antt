@@ -41,7 +41,7 @@ event-requires : tie.Need-event-requires Inv-loop μ-loop
 event-requires c κs = search needs
 
 add-count : tie.Need-add-count Inv-loop μ-loop
-add-count c = 
+add-count c =
     let h : length (now (c .before .before .before .before .before .before .before .before .before .args .file)) < 2 ^ 64 = search needs in
     omega (arith, h, c .before .before .before .before .before .before .before .loop .inv .few, c .before .before .before .before .before .before .loop-test .taken)
 

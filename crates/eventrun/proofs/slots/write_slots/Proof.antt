@@ -46,7 +46,7 @@ write-slot-requires : tie.Need-write-slot-requires Inv-loop μ-loop
 write-slot-requires c κs = search needs
 
 add-at : tie.Need-add-at Inv-loop μ-loop
-add-at c = 
+add-at c =
     let h : length (now (c .before .before .before .before .before .before .before .before .before .before .args .out)) < 2 ^ 64 = search needs in
     omega (arith, h, filled-length (c .before .before .before .before .before .before .loop .inv .done), told-room _ (search needs) (c .before .before .before .before .before .before .loop .inv) (c .before .before .before .before .before .loop-test .taken) _ (c .before .before .write-slot .ensures .0))
 
