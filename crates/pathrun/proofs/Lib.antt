@@ -1,0 +1,5 @@
+-- Laws that the proofs cite.
+pub mod FileLaws
+pub mod WalkLaws
+pub mod SessionLaws
+pub mod PortionLaws

@@ -1,0 +1,105 @@
+-- A session reads the input portion by portion: what a call on the bytes held writes, and where it leaves the session.
+use Prim.Native.Nat.{ℕ, zero, suc, _/_}
+use mathlib.Core.Bool.{Bool, true, false, cond}
+use mathlib.Core.List.{List, [], _∷_, _++_}
+use lib.Dec.{eqb, ltb}
+use lib.ListN.{length}
+use Rattle.base.specs.Refusals.{refusalNumber}
+use Rattle.rules.specs.Event.{numberOf, valueOf}
+use Rattle.rules.specs.Step.{step, allowed, freshRecord}
+use Rattle.rules.specs.declared.types.Settings.{Settings}
+use Rattle.rules.specs.declared.types.Event.{Event}
+use Rattle.rules.specs.declared.types.Record.{Record}
+use Rattle.rules.specs.declared.types.Reply.{Reply}
+use Rattle.eventfile.specs.File.{settingsOf, parseOf}
+use Rattle.eventfile.specs.declared.types.Parse.{Parse}
+use Rattle.eventfile.specs.declared.types.Parse.the-variants as parse
+use Rattle.lines.specs.Text.{lineOf}
+use Rattle.pathrun.specs.Lines.{numberAfter}
+use Rattle.pathrun.specs.declared.Phase.{Phase}
+use Rattle.pathrun.specs.declared.Phase.the-variants as phase
+use Rattle.pathrun.specs.declared.Session.{Session}
+use Rattle.pathrun.specs.declared.Run.{Run}
+
+-- ---- a session
+
+-- a session before its first byte; the record and the number count from the settings on
+abbrev pub noSettings : Settings
+noSettings = record { cap = 0; gap = 0; window = 0; horizon = 0 }
+
+abbrev pub sessionOf : Phase → Record → ℕ → Session
+sessionOf p rec n = record { rec = rec; number = n; phase = p }
+
+unfoldable pub begun : Session
+begun = sessionOf phase.Settings (freshRecord noSettings) 1
+
+-- a session that writes no more
+abbrev pub overOf : Session → Session
+overOf s = sessionOf phase.Over (s .rec) (s .number)
+
+-- ---- a call
+
+-- what a call writes, and its answer
+pub record Ran : Type 0 where
+  pub text : List ℕ
+  pub run : Run
+
+-- a call ends: with this text, in this session, with so many bytes read, and for want of room or not
+abbrev pub halted : List ℕ → Session → ℕ → Bool → Ran
+halted text s at full =
+    record { text = text; run = record { session = s; place = at; wrote = length text; full = full } }
+
+-- the line of an event
+abbrev pub eventLine : ℕ → Event → Reply → List ℕ
+eventLine n e r = lineOf n (e .kind) (numberOf r) (valueOf r)
+
+-- a record of the file after the text so far; one that is cut short waits for more bytes, by `more` come those after it
+abbrev pub ranBy : Parse → (List ℕ → Record → ℕ → ℕ → Ran) → List ℕ → Record → ℕ → ℕ → Ran
+ranBy parse.End more text rec n at = halted text (sessionOf phase.Running rec n) at false
+ranBy (parse.Refused why k) more text rec n at =
+    cond (eqb (refusalNumber why) 13) (halted text (sessionOf phase.Running rec n) at false)
+    (halted (text ++ lineOf n k (refusalNumber why) 0) (sessionOf phase.Over rec n) at false)
+ranBy (parse.Event e next) more text rec n at =
+    more (text ++ eventLine n e (step rec e .reply)) (step rec e .next) (numberAfter n) next
+
+-- at most f records, from a place on
+unfoldable pub ranFrom : ℕ → List ℕ → List ℕ → Record → ℕ → ℕ → Ran
+ranFrom zero l text rec n at = halted text (sessionOf phase.Running rec n) at true
+ranFrom (suc f) l text rec n at = ranBy (parseOf l at) (ranFrom f l) text rec n at
+
+-- the settings, once their 32 bytes are there, and the records after them
+abbrev pub ranSettings : ℕ → Session → List ℕ → Ran
+ranSettings f s l =
+    cond (ltb (length l) 32) (halted [] s 0 false)
+    (cond (allowed (settingsOf l)) (ranFrom f l [] (freshRecord (settingsOf l)) 1 32)
+    (halted (lineOf 0 0 6 0) (overOf s) 0 false))
+
+abbrev pub ranIn : Phase → ℕ → Session → List ℕ → Ran
+ranIn phase.Settings f s l = ranSettings f s l
+ranIn phase.Running f s l = ranFrom f l [] (s .rec) (s .number) 0
+ranIn phase.Over f s l = halted [] s 0 false
+
+-- a call on the bytes held, which writes at most f lines
+unfoldable pub ranOf : ℕ → Session → List ℕ → Ran
+ranOf f s l = cond (eqb f 0) (halted [] s 0 true) (ranIn (s .phase) f s l)
+
+-- a line has at most 84 bytes: four numbers of at most 20 places, a byte behind each
+abbrev pub linesIn : List ℕ → ℕ
+linesIn out = length out / 84
+
+-- ---- the end of the input
+
+-- a record that can't be read gives its line
+abbrev pub lastBy : Parse → ℕ → List ℕ
+lastBy parse.End n = []
+lastBy (parse.Refused why k) n = lineOf n k (refusalNumber why) 0
+lastBy (parse.Event e next) n = []
+
+abbrev pub lastIn : Phase → Session → List ℕ → List ℕ
+lastIn phase.Settings s l = lineOf 0 0 13 0
+lastIn phase.Running s l = lastBy (parseOf l 0) (s .number)
+lastIn phase.Over s l = []
+
+-- the last line, if there is one, by the bytes that are left when the input ends
+unfoldable pub lastOf : Session → List ℕ → List ℕ
+lastOf s l = lastIn (s .phase) s l
