@@ -3,3 +3,5 @@ pub mod FileLaws
 pub mod WalkLaws
 pub mod SessionLaws
 pub mod PortionLaws
+pub mod HeldLaws
+pub mod LayLaws

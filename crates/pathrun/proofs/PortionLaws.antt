@@ -10,7 +10,7 @@ use Rattle.base.proofs.Cases.{on-flag, never}
 use Rattle.pathrun.specs.Lines.{linesOf}
 use Rattle.pathrun.specs.Sessions.{begun, ranOf, lastOf}
 use Rattle.pathrun.specs.Portions.{Fed, behind, leftBy, calls, fed, joined, PortionsHold}
-use Rattle.pathrun.specs.declared.Session.{Session}
+use Rattle.pathrun.specs.declared.types.Session.{Session}
 use Rattle.pathrun.proofs.SessionLaws.{owed, Told, told, lines-short}
 
 -- what calls wrote, and then what is owed for the bytes held and any after them, is what was owed; nothing whole is left

@@ -21,10 +21,10 @@ use Rattle.eventfile.specs.declared.types.Parse.{Parse}
 use Rattle.eventfile.specs.declared.types.Parse.the-variants as parse
 use Rattle.lines.specs.Text.{lineOf}
 use Rattle.pathrun.specs.Lines.{numberAfter, linesFrom, linesOf}
-use Rattle.pathrun.specs.Sessions.{sessionOf, overOf, Ran, halted, eventLine, ranBy, ranFrom, ranSettings, ranIn, ranOf, lastBy, lastIn, lastOf}
-use Rattle.pathrun.specs.declared.Phase.{Phase}
-use Rattle.pathrun.specs.declared.Phase.the-variants as phase
-use Rattle.pathrun.specs.declared.Session.{Session}
+use Rattle.pathrun.specs.Sessions.{sessionOf, overOf, Ran, halted, eventLine, stopLine, stopPhase, stopped, ranBy, ranFrom, ranSettings, ranIn, ranOf, lastBy, lastIn, lastOf}
+use Rattle.pathrun.specs.declared.types.Phase.{Phase}
+use Rattle.pathrun.specs.declared.types.Phase.the-variants as phase
+use Rattle.pathrun.specs.declared.types.Session.{Session}
 use Rattle.pathrun.proofs.FileLaws.{read-more, isWhole, parse-more, next-in, parse-shift}
 use Rattle.pathrun.proofs.WalkLaws.{walkBy, walkAll, walk-is, walk-open, walk-drop}
 
@@ -104,22 +104,33 @@ told-low : {l t whole : List ℕ} {a b : ℕ} {r : Ran} → b ≤ a → Told l t
 told-low {l} {t} {whole} {a} {b} {r} h d =
     record { same = d .same; within = d .within; rests = d .rests; gone = λ q. omega (arith, d .gone q) }
 
+-- a run that stops before what is no event and not over
+rest-at : (x : Parse) (f : ℕ) (l t text : List ℕ) (rec : Record) (n at : ℕ) → at ≤ length l → parseOf l at ≡ x
+    → isEvent x ≡ false → stopLine x n ≡ [] → stopPhase x ≡ phase.Running
+    → Told l t (text ++ walkAll (l ++ t) rec n at) (at + 3 * suc f) (stopped x text rec n at)
+rest-at x f l t text rec n at h e v a b =
+    let g : text ≡ text ++ stopLine x n = sym (ap (λ (z : List ℕ). text ++ z) a ∙ append-nil text) in
+    subst (λ (r : Ran). Told l t (text ++ walkAll (l ++ t) rec n at) (at + 3 * suc f) r)
+    (λ j. halted (g j) (sessionOf (sym b j) rec n) at false)
+    (still l t text rec n at (at + 3 * suc f) h (ap isEvent e ∙ v))
+
 -- one record and, by the law for f, those after it
 turn : (x : Parse) (f : ℕ) (l t text : List ℕ) (rec : Record) (n at : ℕ) → at ≤ length l → parseOf l at ≡ x
     → ((c : List ℕ) (r : Record) (m p : ℕ) → p ≤ length l → Told l t (c ++ walkAll (l ++ t) r m p) (p + 3 * f) (ranFrom f l c r m p))
     → Told l t (text ++ walkAll (l ++ t) rec n at) (at + 3 * suc f) (ranBy x (ranFrom f l) text rec n at)
-turn parse.End f l t text rec n at h e ih = still l t text rec n at (at + 3 * suc f) h (ap isEvent e)
+turn parse.End f l t text rec n at h e ih = rest-at parse.End f l t text rec n at h e refl refl refl
 turn (parse.Refused why k) f l t text rec n at h e ih =
     let line = lineOf n k (refusalNumber why) 0 in
-    let P : Bool → Type 0 =
-    λ (b : Bool). Told l t (text ++ walkAll (l ++ t) rec n at) (at + 3 * suc f)
-    (cond b (halted text (sessionOf phase.Running rec n) at false) (halted (text ++ line) (sessionOf phase.Over rec n) at false)) in
     on-flag (eqb (refusalNumber why) 13)
-    (λ c. subst P (sym c) (still l t text rec n at (at + 3 * suc f) h (ap isEvent e)))
+    (λ c.
+    rest-at (parse.Refused why k) f l t text rec n at h e refl (λ j. cond (c j) [] line)
+    (λ j. cond (c j) phase.Running phase.Over))
     (λ c.
     let w : isWhole (parseOf l at) ≡ true = ap isWhole e ∙ (λ j. cond (c j) false true) in
     let p : parseOf (l ++ t) at ≡ parse.Refused why k = parse-more l t at w ∙ e in
-    subst P (sym c) (over-at l t text line rec n at (at + 3 * suc f) h
+    subst (λ (b : Bool). Told l t (text ++ walkAll (l ++ t) rec n at) (at + 3 * suc f)
+    (halted (text ++ cond b [] line) (sessionOf (cond b phase.Running phase.Over) rec n) at false)) (sym c)
+    (over-at l t text line rec n at (at + 3 * suc f) h
     (walk-open (l ++ t) rec n at ∙ (λ j. walkBy (p j) (walkAll (l ++ t)) rec n))))
 turn (parse.Event v next) f l t text rec n at h e ih =
     let b = next-in l at next v e in

@@ -1,10 +1,11 @@
 -- A session reads the input portion by portion: what a call on the bytes held writes, and where it leaves the session.
-use Prim.Native.Nat.{ℕ, zero, suc, _/_}
+use Prim.Native.Nat.{ℕ, zero, suc, _-_, _/_}
 use mathlib.Core.Bool.{Bool, true, false, cond}
 use mathlib.Core.List.{List, [], _∷_, _++_}
 use lib.Dec.{eqb, ltb}
-use lib.ListN.{length}
+use lib.ListN.{length, take, drop}
 use Rattle.base.specs.Refusals.{refusalNumber}
+use Rattle.octets.specs.Octets.{over}
 use Rattle.rules.specs.Event.{numberOf, valueOf}
 use Rattle.rules.specs.Step.{step, allowed, freshRecord}
 use Rattle.rules.specs.declared.types.Settings.{Settings}
@@ -16,10 +17,10 @@ use Rattle.eventfile.specs.declared.types.Parse.{Parse}
 use Rattle.eventfile.specs.declared.types.Parse.the-variants as parse
 use Rattle.lines.specs.Text.{lineOf}
 use Rattle.pathrun.specs.Lines.{numberAfter}
-use Rattle.pathrun.specs.declared.Phase.{Phase}
-use Rattle.pathrun.specs.declared.Phase.the-variants as phase
-use Rattle.pathrun.specs.declared.Session.{Session}
-use Rattle.pathrun.specs.declared.Run.{Run}
+use Rattle.pathrun.specs.declared.types.Phase.{Phase}
+use Rattle.pathrun.specs.declared.types.Phase.the-variants as phase
+use Rattle.pathrun.specs.declared.types.Session.{Session}
+use Rattle.pathrun.specs.declared.types.Run.{Run}
 
 -- ---- a session
 
@@ -53,12 +54,25 @@ halted text s at full =
 abbrev pub eventLine : ℕ → Event → Reply → List ℕ
 eventLine n e r = lineOf n (e .kind) (numberOf r) (valueOf r)
 
--- a record of the file after the text so far; one that is cut short waits for more bytes, by `more` come those after it
+-- "After 13, 14 or 15 it stops": a record that can't be read ends the session with its line, but one that is cut short
+-- (13) waits for more bytes
+abbrev pub stopLine : Parse → ℕ → List ℕ
+stopLine parse.End n = []
+stopLine (parse.Event e next) n = []
+stopLine (parse.Refused why k) n = cond (eqb (refusalNumber why) 13) [] (lineOf n k (refusalNumber why) 0)
+
+abbrev pub stopPhase : Parse → Phase
+stopPhase parse.End = phase.Running
+stopPhase (parse.Event e next) = phase.Running
+stopPhase (parse.Refused why k) = cond (eqb (refusalNumber why) 13) phase.Running phase.Over
+
+abbrev pub stopped : Parse → List ℕ → Record → ℕ → ℕ → Ran
+stopped x text rec n at = halted (text ++ stopLine x n) (sessionOf (stopPhase x) rec n) at false
+
+-- what stands at a place, after the text so far; by `more` come the records after an event
 abbrev pub ranBy : Parse → (List ℕ → Record → ℕ → ℕ → Ran) → List ℕ → Record → ℕ → ℕ → Ran
-ranBy parse.End more text rec n at = halted text (sessionOf phase.Running rec n) at false
-ranBy (parse.Refused why k) more text rec n at =
-    cond (eqb (refusalNumber why) 13) (halted text (sessionOf phase.Running rec n) at false)
-    (halted (text ++ lineOf n k (refusalNumber why) 0) (sessionOf phase.Over rec n) at false)
+ranBy parse.End more text rec n at = stopped parse.End text rec n at
+ranBy (parse.Refused why k) more text rec n at = stopped (parse.Refused why k) text rec n at
 ranBy (parse.Event e next) more text rec n at =
     more (text ++ eventLine n e (step rec e .reply)) (step rec e .next) (numberAfter n) next
 
@@ -103,3 +117,13 @@ lastIn phase.Over s l = []
 -- the last line, if there is one, by the bytes that are left when the input ends
 unfoldable pub lastOf : Session → List ℕ → List ℕ
 lastOf s l = lastIn (s .phase) s l
+
+-- ---- lent bytes
+
+-- a line over lent bytes, behind the first `at` of them
+abbrev pub laidAt : ℕ → List ℕ → List ℕ → List ℕ
+laidAt at line l = take at l ++ over line (drop at l)
+
+-- the bytes from a place on and before another
+abbrev pub partOf : ℕ → ℕ → List ℕ → List ℕ
+partOf from to l = take (to - from) (drop from l)

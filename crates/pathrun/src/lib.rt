@@ -1,33 +1,11 @@
-// Runs over the bytes of an event file.
+// Event files as they come, in portions: a session over them, and what it writes.
 ghost use Rattle.pathrun.specs.Portions.{PortionsHold};
-use base::types::Refusal;
-use eventfile::types::Parse;
-use live::types::Liveness;
-use rules::types::*;
 
-// What a session awaits: the settings, a record of the file, or nothing more.
-pub enum Phase {
-    Settings,
-    Running,
-    Over,
-}
+pub mod held;
+pub mod run;
+pub mod types;
 
-// What is known between two portions of a file: the record, the number of the file's next record, and the phase.
-pub struct Session {
-    pub rec: Record,
-    pub number: u64,
-    pub phase: Phase,
-}
-
-// What a call leaves: the session, how many of its bytes it read and wrote, and whether it stopped for want of room.
-pub struct Run {
-    pub session: Session,
-    pub place: usize,
-    pub wrote: usize,
-    pub full: bool,
-}
-
-// Portions of any lengths give the lines of all bytes.
+// What portions of any lengths give is what all bytes give.
 pub fn portions()
     ensures { λ r. ⌜ PortionsHold ⌝ }
 {}

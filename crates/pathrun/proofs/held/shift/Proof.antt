@@ -1,0 +1,72 @@
+use Rattle.pathrun.proofs.held.shift.Statement.{statement}
+use Rattle.pathrun.proofs.held.shift.Tie as tie
+use Rattle.pathrun.proofs.held.shift.Reads as reads
+use Rattle.pathrun.proofs.held.shift.Lts as lts
+
+abbrev Inv-loop : tie.InvT-loop
+Inv-loop buf₀ from to i₀ j₀ buf i j = ?
+
+abbrev μ-loop : tie.MeasureT-loop
+μ-loop buf₀ from to i₀ j₀ buf i j = ?
+
+-- src/held.rt:13:5
+loop-holds : tie.Need-loop-holds Inv-loop μ-loop
+loop-holds c = ?
+
+-- src/held.rt:15:13
+same-length : tie.Need-same-length Inv-loop μ-loop
+same-length c = ?
+
+-- src/held.rt:15:13
+returns : tie.Need-returns Inv-loop μ-loop
+returns c = ?
+
+-- src/held.rt:17:18
+slice-read-buf : tie.Need-slice-read-buf Inv-loop μ-loop
+slice-read-buf c = ?
+
+-- src/held.rt:17:9
+slice-write-buf : tie.Need-slice-write-buf Inv-loop μ-loop
+slice-write-buf c = ?
+
+-- src/held.rt:18:9
+add-i : tie.Need-add-i Inv-loop μ-loop
+add-i c = ?
+
+-- src/held.rt:19:9
+add-j : tie.Need-add-j Inv-loop μ-loop
+add-j c = ?
+
+-- src/held.rt:13:5
+loop-less : tie.Need-loop-less Inv-loop μ-loop
+loop-less c = ?
+
+-- src/held.rt:13:5
+loop-again : tie.Need-loop-again Inv-loop μ-loop
+loop-again c = ?
+
+-- src/held.rt:8:1
+same-length-2 : tie.Need-same-length-2 Inv-loop μ-loop
+same-length-2 c = ?
+
+-- src/held.rt:8:1
+returns-2 : tie.Need-returns-2 Inv-loop μ-loop
+returns-2 c = ?
+
+pub shift-spec : {M : Type 1} → statement M
+shift-spec =
+    tie.close
+    (tie.spec
+    Inv-loop
+    μ-loop
+    loop-holds
+    same-length
+    returns
+    slice-read-buf
+    slice-write-buf
+    add-i
+    add-j
+    loop-less
+    loop-again
+    same-length-2
+    returns-2)
