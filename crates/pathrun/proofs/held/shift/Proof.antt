@@ -4,10 +4,10 @@ use Rattle.pathrun.proofs.held.shift.Reads as reads
 use Rattle.pathrun.proofs.held.shift.Lts as lts
 
 abbrev Inv-loop : tie.InvT-loop
-Inv-loop buf₀ from to i₀ j₀ buf i j = ?
+Inv-loop buf₀ from to i₀ j₀ buf i j = Moving buf₀ from to buf i j
 
 abbrev μ-loop : tie.MeasureT-loop
-μ-loop buf₀ from to i₀ j₀ buf i j = ?
+μ-loop buf₀ from to i₀ j₀ buf i j = to - j
 
 -- src/held.rt:13:5
 loop-holds : tie.Need-loop-holds Inv-loop μ-loop
