@@ -1,13 +1,17 @@
+-- `pathrun::run::lay` meets its contract.
+-- Assumes nothing.
 use borrow.Author.Needs.{needs}
+use native.Mathlib.Omega.{arith}
+use Rattle.lines.specs.Text.{lineOf}
+use Rattle.pathrun.proofs.LayLaws.{written-few, lay-past, lay-tail}
 use Rattle.pathrun.proofs.run.lay.Statement.{statement}
 use Rattle.pathrun.proofs.run.lay.Tie as tie
-use Rattle.pathrun.proofs.run.lay.Reads as reads
-use Rattle.pathrun.proofs.run.lay.Lts as lts
-use Rattle.lines.proofs.put_line.Reads as put-line-reads
 
 -- src/run.rt:13:9
 returns : tie.Need-returns
-returns c = ?
+returns c =
+    let a = c .before .before .args in
+    lay-past (a .at) (lineOf (a .number) (a .kind) (a .refusal) (a .value)) _ (c .if1 .taken)
 
 -- src/run.rt:15:26
 sub-put-line : tie.Need-sub-put-line
@@ -35,7 +39,10 @@ same-length c = search needs
 
 -- src/run.rt:9:1
 returns-2 : tie.Need-returns-2
-returns-2 c = ?
+returns-2 c =
+    let a = c .before .before .before .before .before .before .args in
+    let p = c .before .before .put-line .ensures in
+    lay-tail (lineOf (a .number) (a .kind) (a .refusal) (a .value)) (c .before .before .before .before .if1 .left) (p .0) (p .2)
 
 pub lay-spec : {M : Type 1} → statement M
 lay-spec =
