@@ -1,0 +1,2 @@
+-- Laws of one event on the record, which others cite.
+pub mod EventLaws
