@@ -46,10 +46,10 @@ lay-past at b l h =
         nil (x ∷ b) k = absurd (omega arith)
 
 -- the tail of the lent bytes, written over, and the rest
-pub lay-tail : {at r : ℕ} {l m : List ℕ} (b : List ℕ) → at ≤ length l → r ≡ written b (midOf at (length l - at) l)
+pub lay-tail : {at r : ℕ} {m : List ℕ} (b l : List ℕ) → at ≤ length l → r ≡ written b (midOf at (length l - at) l)
     → m ≡ over b (midOf at (length l - at) l)
     → (at + r ≡ at + written b (drop at l)) × (putMid at (length l - at) l m ≡ laidAt at b l)
-lay-tail {at} {r} {l} {m} b h e q =
+lay-tail {at} {r} {m} b l h e q =
     let mid : midOf at (length l - at) l ≡ drop at l = take-all (length l - at) (drop at l) (le-of-eq (length-drop at l)) in
     let post : postOf at (length l - at) l ≡ [] = drop-of-length-le (drop at l) (le-of-eq (length-drop at l)) in
     (
