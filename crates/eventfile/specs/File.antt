@@ -11,6 +11,7 @@ use Rattle.rules.specs.Event.{Kind, kindNumber, Open, Probe, Answer, Poll, Samp
 use Rattle.rules.specs.Event.{Fresh, Thaw, Sweep, Close, Choose}
 use Rattle.rules.specs.declared.types.Event.{Event}
 use Rattle.rules.specs.declared.types.Settings.{Settings}
+use Rattle.eventfile.specs.declared.types.Layout.{Layout}
 use Rattle.eventfile.specs.declared.types.Parse.{Parse}
 use Rattle.eventfile.specs.declared.types.Parse.the-variants as parse
 
@@ -53,6 +54,18 @@ flagsAt map = ackedAt map + bytes 4 2 map
 -- the bytes of a record, by the bits 0 to 5 of its map: "map bits 6 and 7 bring no bytes"
 abbrev pub sizeOf : ℕ → ℕ
 sizeOf map = flagsAt map + bytes 5 1 map
+
+-- all of these places
+abbrev pub layoutOf : ℕ → Layout
+layoutOf map =
+    record {
+      span = spanAt map;
+      id = idAt map;
+      len = lenAt map;
+      acked = ackedAt map;
+      flags = flagsAt map;
+      size = sizeOf map;
+    }
 
 -- "little-endian, an absent field is 0": a field of so many bytes, which begins there if its bit stands
 abbrev pub field : ℕ → ℕ → ℕ → ℕ → List ℕ → ℕ
@@ -126,7 +139,7 @@ abbrev pub isKindless : ℕ → Bool
 isKindless kind = ltb kind 1 || ltb 15 kind
 
 -- 14: "map bit the kind has not"; "map bits 6 and 7 .. get 14"
-abbrev pub isStray : ℕ → ℕ → Bool
+unfoldable pub isStray : ℕ → ℕ → Bool
 isStray map kind = any (λ b. not (hasBit kind b) && stands b map) (0 ∷ 1 ∷ 2 ∷ 3 ∷ 4 ∷ 5 ∷ 6 ∷ 7 ∷ [])
 
 -- ---- one record

@@ -9,3 +9,13 @@ pub enum Parse {
     Event(Event, usize),
     Refused(Refusal, u8),
 }
+
+// Where the fields of a record begin, counted from its first byte, and the bytes of the record.
+pub struct Layout {
+    pub span: usize,
+    pub id: usize,
+    pub len: usize,
+    pub acked: usize,
+    pub flags: usize,
+    pub size: usize,
+}

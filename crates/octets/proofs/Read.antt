@@ -2,7 +2,7 @@
 -- Assumes nothing.
 use mathlib.Core.Path.{_≡_, sym}
 use mathlib.Core.List.{List}
-use Prim.Native.Nat.{ℕ, suc, _+_, _-_, _*_, _<_, _≤_, _^_}
+use Prim.Native.Nat.{ℕ, suc, _+_, _-_, _*_, _<_, _≤_, _^_, zero-le}
 use native.Mathlib.Omega.{arith}
 use native.Mathlib.Nat.{pow-suc, pow-le-pow-right}
 use borrow.Author.Tests.{le-leb, lt-leb}
@@ -58,6 +58,16 @@ reading-end {l} {at} {w} {left} {x} r h =
     let n : w - left ≡ w = omega arith in
     let m : at + left ≡ at = omega arith in
     rw (le-leb w 8 (r .narrow), le-leb (at + w) (length l) (r .there)) (rw (n, m) at (r .is))
+
+pub reading-small : {l : List ℕ} {at w left x : ℕ} → Reading l at w left x → left ≤ 0 → x < 256 ^ w
+reading-small {l} {at} {w} {left} {x} r h = let n : w - left ≡ w = omega arith in rw n at (r .small)
+
+-- nothing is below any power
+pub none-small : (w : ℕ) → 0 < 256 ^ w
+none-small w =
+    let a : 0 < 256 = omega arith in
+    let p : 256 ^ 0 ≤ 256 ^ w = pow-le-pow-right a (zero-le) in
+    omega (arith, p)
 
 pub read-wide : (at w : ℕ) (l : List ℕ) → 8 < w → 0 ≡ readAt at w l
 unfolding readAt

@@ -1,0 +1,3 @@
+-- Laws of event files.
+pub mod FrontLaws
+pub mod ReadLaws
