@@ -1,21 +1,24 @@
 -- A session reads the input portion by portion: what a call on the bytes held writes, and where it leaves the session.
-use Prim.Native.Nat.{ℕ, zero, suc, _-_, _/_}
+use Prim.Native.Nat.{ℕ, zero, suc, _+_, _-_, _/_}
 use mathlib.Core.Bool.{Bool, true, false, cond}
 use mathlib.Core.List.{List, [], _∷_, _++_}
 use lib.Dec.{eqb, ltb}
 use lib.ListN.{length, take, drop}
 use Rattle.base.specs.Refusals.{refusalNumber}
 use Rattle.octets.specs.Octets.{over}
-use Rattle.rules.specs.Event.{numberOf, valueOf}
+use Rattle.rules.specs.Event.{Choose, is, numberOf, valueOf}
+use Rattle.rules.specs.Rules.{emptySlot, onSlot}
 use Rattle.rules.specs.Step.{step, allowed, freshRecord}
 use Rattle.rules.specs.declared.types.Settings.{Settings}
 use Rattle.rules.specs.declared.types.Event.{Event}
 use Rattle.rules.specs.declared.types.Record.{Record}
 use Rattle.rules.specs.declared.types.Reply.{Reply}
+use Rattle.rules.specs.declared.types.Slot.{Slot}
+use Rattle.choosing.specs.Choosing.{chosenOf}
 use Rattle.eventfile.specs.File.{settingsOf, parseOf}
 use Rattle.eventfile.specs.declared.types.Parse.{Parse}
 use Rattle.eventfile.specs.declared.types.Parse.the-variants as parse
-use Rattle.lines.specs.Text.{lineOf}
+use Rattle.lines.specs.Text.{lineOf, written}
 use Rattle.pathrun.specs.Lines.{numberAfter}
 use Rattle.pathrun.specs.declared.types.Phase.{Phase}
 use Rattle.pathrun.specs.declared.types.Phase.the-variants as phase
@@ -53,6 +56,10 @@ halted text s at full =
 -- the line of an event
 abbrev pub eventLine : ℕ → Event → Reply → List ℕ
 eventLine n e r = lineOf n (e .kind) (numberOf r) (valueOf r)
+
+-- the answer of an event that changes no slot: a choose, or one whose slot is none
+abbrev pub stillOf : Settings → List Slot → Event → Reply
+stillOf t slots e = cond (is Choose e) (chosenOf slots (e .span)) (onSlot t emptySlot e .reply)
 
 -- "After 13, 14 or 15 it stops": a record that can't be read ends the session with its line, but one that is cut short
 -- (13) waits for more bytes
@@ -123,6 +130,16 @@ lastOf s l = lastIn (s .phase) s l
 -- a line over lent bytes, behind the first `at` of them
 abbrev pub laidAt : ℕ → List ℕ → List ℕ → List ℕ
 laidAt at line l = take at l ++ over line (drop at l)
+
+-- a run that stops before what stands at a place, with `at` bytes written before
+abbrev pub stoppedAt : Record → ℕ → Parse → ℕ → List ℕ → ℕ → Run
+stoppedAt rec n x place out at =
+    record {
+      session = sessionOf (stopPhase x) rec n;
+      place = place;
+      wrote = at + written (stopLine x n) (drop at out);
+      full = false;
+    }
 
 -- the bytes from a place on and before another
 abbrev pub partOf : ℕ → ℕ → List ℕ → List ℕ
