@@ -45,3 +45,21 @@ module _ (r : Record) (e : Event) where
         List·getD-eq-default (r .slots) emptySlot h,
         set-out (r .slots) (e .slot) (onSlot (r .settings) emptySlot e .slot) h,
       )
+
+  -- ---- the same from what the code's calls give
+
+  pub event-choose : {x : Stepped} → e .kind ≡ 15 → x ≡ choiceOf r e → x ≡ step r e
+  unfolding step
+  event-choose k q = q ∙ rw k
+
+  pub event-in : {x : Slot} {u : Turn} (d : Slot) → eqb (e .kind) 15 ≡ false → length (r .slots) ≡ 8 → e .slot ≤ 7
+      → x ≡ getD (r .slots) (e .slot) d → u ≡ onSlot (r .settings) x e → put r (e .slot) u ≡ step r e
+  event-in d k l h a q =
+      let o : e .slot < length (r .slots) = omega (arith, l) in
+      rw (q, a) (sym (step-in d k o))
+
+  pub event-out : {x : Slot} {u : Turn} → eqb (e .kind) 15 ≡ false → length (r .slots) ≡ 8 → 7 < e .slot
+      → x ≡ emptySlot → u ≡ onSlot (r .settings) x e → record { next = r; reply = u .reply } ≡ step r e
+  event-out k l h a q =
+      let o : length (r .slots) ≤ e .slot = omega (arith, l) in
+      rw (q, a) (sym (step-out k o))
