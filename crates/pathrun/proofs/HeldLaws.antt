@@ -51,13 +51,13 @@ module _ {l₀ : List ℕ} {from to : ℕ} {l : List ℕ} {i j : ℕ} (m : Movin
       let b : i < length (drop from l₀) = omega (arith, n, m .place, length-drop from l₀) in
       let e : j ≡ length p + from = omega (arith, m .place, m .done .long) in
       let g : getD l j d ≡ getD (drop from l₀) i d =
-          (λ x. getD (m .done .is x) (e x) d) ∙ getD-append-add p (drop i l₀) from d ∙ getD-drop i l₀ from d
-          ∙ (λ x. getD l₀ (swap x) d) ∙ sym (getD-drop from l₀ i d) in
+      (λ x. getD (m .done .is x) (e x) d) ∙ getD-append-add p (drop i l₀) from d ∙ getD-drop i l₀ from d
+      ∙ (λ x. getD l₀ (swap x) d) ∙ sym (getD-drop from l₀ i d) in
       let t : take (i + 1) (drop from l₀) ≡ p ++ (getD l j d ∷ []) =
-          rw (add-one i) (take-suc (drop from l₀) i d b ∙ (λ x. p ++ (sym g x ∷ []))) in
+      rw (add-one i) (take-suc (drop from l₀) i d b ∙ (λ x. p ++ (sym g x ∷ []))) in
       let s : set l i (getD l j d) ≡ p ++ (getD l j d ∷ drop (suc i) l₀) =
-          (λ x. set ((m .done .is ∙ (λ y. p ++ drop-cons l₀ i d a y)) x) i (getD l j d))
-          ∙ set-at p (getD l₀ i d) (drop (suc i) l₀) (getD l j d) i (m .done .long) in
+      (λ x. set ((m .done .is ∙ (λ y. p ++ drop-cons l₀ i d a y)) x) i (getD l j d))
+      ∙ set-at p (getD l₀ i d) (drop (suc i) l₀) (getD l j d) i (m .done .long) in
       record {
         place = omega (arith, m .place);
         few = omega (arith, m .place);

@@ -36,6 +36,7 @@ lay-past at b l h =
   where
     omega' : (at : ℕ) (l : List ℕ) → length l < at → length l ≤ at
     omega' at l h = omega arith
+
     over-none : (b : List ℕ) → over b [] ≡ []
     over-none b =
         on-order 0 (length b) (λ k. over-not b [] k)
@@ -51,8 +52,7 @@ pub lay-tail : {at r : ℕ} {m : List ℕ} (b l : List ℕ) → at ≤ length l 
     → (at + r ≡ at + written b (drop at l)) × (putMid at (length l - at) l m ≡ laidAt at b l)
 lay-tail {at} {r} {m} b l h e q =
     let mid : midOf at (length l - at) l ≡ drop at l = take-all (length l - at) (drop at l) (le-of-eq (length-drop at l)) in
-    let post : postOf at (length l - at) l ≡ [] = drop-of-length-le (drop at l) (le-of-eq (length-drop at l)) in
-    (
+    let post : postOf at (length l - at) l ≡ [] = drop-of-length-le (drop at l) (le-of-eq (length-drop at l)) in (
       (λ j. at + (e ∙ ap (written b) mid) j),
       (λ j. take at l ++ ((q ∙ ap (over b) mid) j ++ post j)) ∙ ap (λ (z : List ℕ). take at l ++ z) (append-nil (over b (drop at l))),
     )

@@ -5,3 +5,6 @@ pub mod SessionLaws
 pub mod PortionLaws
 pub mod HeldLaws
 pub mod LayLaws
+pub mod RunLaws
+pub mod StopLaws
+pub mod StepLaws

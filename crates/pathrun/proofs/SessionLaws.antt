@@ -69,7 +69,7 @@ stops l t text rec n at h =
     (walk-drop at (l ++ t) a rec n ∙ (λ j. walkAll (drop-append-le at l t h j) rec n 0))
 
 -- what stands at a place is an event
-abbrev isEvent : Parse → Bool
+abbrev pub isEvent : Parse → Bool
 isEvent parse.End = false
 isEvent (parse.Event e next) = true
 isEvent (parse.Refused why k) = false
@@ -161,7 +161,7 @@ settings-more l t h =
     let d = read-more 24 8 l t (omega arith) in
     λ j. record { cap = a j; gap = b j; window = c j; horizon = d j }
 
-lines-long : (l t : List ℕ) → 32 ≤ length l
+pub lines-long : (l t : List ℕ) → 32 ≤ length l
     → linesOf (l ++ t) ≡ cond (allowed (settingsOf l)) (walkAll (l ++ t) (freshRecord (settingsOf l)) 1 32) (lineOf 0 0 6 0)
 unfolding linesOf eventsOf endOf
 lines-long l t h =

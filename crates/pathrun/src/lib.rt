@@ -3,6 +3,7 @@ ghost use Rattle.pathrun.specs.Portions.{PortionsHold};
 
 pub mod held;
 pub mod run;
+pub mod session;
 pub mod types;
 
 // What portions of any lengths give is what all bytes give.

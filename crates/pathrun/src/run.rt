@@ -6,13 +6,14 @@ ghost use lib.ListN.{drop};
 ghost use Rattle.lines.specs.Text.{lineOf, written};
 ghost use Rattle.octets.specs.Octets.{over};
 ghost use Rattle.pathrun.specs.Sessions.{eventLine, stillOf, laidAt, stopLine, stoppedAt, linesIn, ranFrom};
-use base::types::Refusal;
 use crate::types::*;
+use base::types::Refusal;
 use eventfile::types::Parse;
 use live::types::Liveness;
 use rules::types::*;
 use select::types::PATH_MAX_PER_PEER;
-use turns::reply::{number_of, value_of};
+use turns::reply::number_of;
+use turns::reply::value_of;
 use turns::slot::on_slot;
 
 // Writes a line behind the first `at` bytes of `out`, or nothing where it does not fit; gives the place after it.
@@ -29,7 +30,14 @@ fn lay(out: &mut [u8], at: usize, number: u64, kind: u64, refusal: u64, value: u
 fn lay_event(out: &mut [u8], at: usize, number: u64, e: Event, reply: Reply) -> usize
     ensures { λ r. ⌜ (r ≡ at + written (eventLine number e reply) (drop at (now (out .entry)))) × (now (out .exit) ≡ laidAt at (eventLine number e reply) (now (out .entry))) ⌝ }
 {
-    lay(out, at, number, e.kind as u64, number_of(reply), value_of(reply))
+    lay(
+        out,
+        at,
+        number,
+        e.kind as u64,
+        number_of(reply),
+        value_of(reply),
+    )
 }
 
 // The answer of an event that changes no slot: a choose, or one whose slot is none.
@@ -49,16 +57,39 @@ fn still(settings: Settings, slots: [Slot; PATH_MAX_PER_PEER], e: Event) -> Repl
 fn stop(rec: Record, number: u64, x: Parse, place: usize, out: &mut [u8], at: usize) -> Run
     ensures { λ r. ⌜ (r ≡ stoppedAt rec number x place (now (out .entry)) at) × (now (out .exit) ≡ laidAt at (stopLine x number) (now (out .entry))) ⌝ }
 {
-    if let Parse::Refused(why, kind) = x {
-        let refusal = why.number();
-        if refusal != 13 {
+    let waits = Session {
+        rec: rec,
+        number: number,
+        phase: Phase::Running,
+    };
+    let rest = Run {
+        session: waits,
+        place: place,
+        wrote: at,
+        full: false,
+    };
+    match x {
+        Parse::End => rest,
+        Parse::Event(e, next) => rest,
+        Parse::Refused(why, kind) => {
+            let refusal = why.number();
+            if refusal == 13 {
+                return rest;
+            }
             let end = lay(out, at, number, kind as u64, refusal, 0);
-            let session = Session { rec: rec, number: number, phase: Phase::Over };
-            return Run { session: session, place: place, wrote: end, full: false };
+            let over = Session {
+                rec: rec,
+                number: number,
+                phase: Phase::Over,
+            };
+            Run {
+                session: over,
+                place: place,
+                wrote: end,
+                full: false,
+            }
         }
     }
-    let session = Session { rec: rec, number: number, phase: Phase::Running };
-    Run { session: session, place: place, wrote: at, full: false }
 }
 
 // The records from a place on, at most one for each 84 bytes of `out`. An event takes its slot out and puts it back.
@@ -74,26 +105,53 @@ pub fn run(rec: Record, number: u64, s: &[u8], place: usize, out: &mut [u8]) -> 
     let mut i: usize = 0;
     while i < most {
         let x = eventfile::record_at(s, p);
-        let Parse::Event(e, next) = x else {
-            let left = Record { settings: settings, slots: slots };
-            return stop(left, n, x, p, out, at);
-        };
-        if (e.kind == 15) | (7 < e.slot) {
-            let reply = still(settings, slots, e);
-            at = lay_event(out, at, n, e, reply);
-        } else {
-            let j = e.slot as usize;
-            let t = on_slot(settings, slots[j], e);
-            let slot = t.slot;
-            let reply = t.reply;
-            slots[j] = slot;
-            at = lay_event(out, at, n, e, reply);
+        match x {
+            Parse::End => {
+                let left = Record {
+                    settings: settings,
+                    slots: slots,
+                };
+                return stop(left, n, x, p, out, at);
+            }
+            Parse::Refused(why, kind) => {
+                let left = Record {
+                    settings: settings,
+                    slots: slots,
+                };
+                return stop(left, n, x, p, out, at);
+            }
+            Parse::Event(e, next) => {
+                let line = n;
+                n = std::num::wrapping_add_u64(n, 1);
+                p = next;
+                i += 1;
+                if (e.kind == 15) | (7 < e.slot) {
+                    let reply = still(settings, slots, e);
+                    at = lay_event(out, at, line, e, reply);
+                } else {
+                    let j = e.slot as usize;
+                    let t = on_slot(settings, slots[j], e);
+                    let slot = t.slot;
+                    let reply = t.reply;
+                    slots[j] = slot;
+                    at = lay_event(out, at, line, e, reply);
+                }
+            }
         }
-        n = std::num::wrapping_add_u64(n, 1);
-        p = next;
-        i += 1;
     }
-    let left = Record { settings: settings, slots: slots };
-    let session = Session { rec: left, number: n, phase: Phase::Running };
-    Run { session: session, place: p, wrote: at, full: true }
+    let left = Record {
+        settings: settings,
+        slots: slots,
+    };
+    let session = Session {
+        rec: left,
+        number: n,
+        phase: Phase::Running,
+    };
+    Run {
+        session: session,
+        place: p,
+        wrote: at,
+        full: true,
+    }
 }

@@ -3,9 +3,9 @@ ghost use mathlib.Core.Path.{_≡_};
 ghost use Rattle.lines.specs.Text.{written};
 ghost use Rattle.octets.specs.Octets.{over};
 ghost use Rattle.pathrun.specs.Sessions.{begun, linesIn, ranOf, lastOf};
-use base::types::Refusal;
 use crate::run::run;
 use crate::types::*;
+use base::types::Refusal;
 use eventfile::types::Parse;
 use live::types::Liveness;
 use rules::types::*;
@@ -15,10 +15,19 @@ use turns::reply::number_of;
 pub fn begin() -> Session
     ensures { λ r. ⌜ r ≡ begun ⌝ }
 {
-    let settings = Settings { cap: 0, gap: 0, window: 0, horizon: 0 };
+    let settings = Settings {
+        cap: 0,
+        gap: 0,
+        window: 0,
+        horizon: 0,
+    };
     let made = peer::record::new(settings);
     let rec = made.next;
-    Session { rec: rec, number: 1, phase: Phase::Settings }
+    Session {
+        rec: rec,
+        number: 1,
+        phase: Phase::Settings,
+    }
 }
 
 // One call on the bytes held: the settings, once they are there, then every record that lies whole within the bytes,
@@ -30,12 +39,22 @@ pub fn step(session: Session, s: &[u8], out: &mut [u8]) -> Run
     let number = session.number;
     let phase = session.phase;
     if out.len() < 84 {
-        return Run { session: session, place: 0, wrote: 0, full: true };
+        return Run {
+            session: session,
+            place: 0,
+            wrote: 0,
+            full: true,
+        };
     }
     match phase {
         Phase::Settings => {
             if s.len() < 32 {
-                return Run { session: session, place: 0, wrote: 0, full: false };
+                return Run {
+                    session: session,
+                    place: 0,
+                    wrote: 0,
+                    full: false,
+                };
             }
             let made = peer::record::new(eventfile::settings_from(s));
             let fresh = made.next;
@@ -44,11 +63,25 @@ pub fn step(session: Session, s: &[u8], out: &mut [u8]) -> Run
                 return run(fresh, 1, s, 32, out);
             }
             let wrote = lines::put_line(out, 0, 0, 6, 0);
-            let over = Session { rec: rec, number: number, phase: Phase::Over };
-            Run { session: over, place: 0, wrote: wrote, full: false }
+            let over = Session {
+                rec: rec,
+                number: number,
+                phase: Phase::Over,
+            };
+            Run {
+                session: over,
+                place: 0,
+                wrote: wrote,
+                full: false,
+            }
         }
         Phase::Running => run(rec, number, s, 0, out),
-        Phase::Over => Run { session: session, place: 0, wrote: 0, full: false },
+        Phase::Over => Run {
+            session: session,
+            place: 0,
+            wrote: 0,
+            full: false,
+        },
     }
 }
 
@@ -61,10 +94,13 @@ pub fn finish(session: Session, s: &[u8], out: &mut [u8]) -> usize
         Phase::Settings => lines::put_line(out, 0, 0, 13, 0),
         Phase::Running => {
             let x = eventfile::record_at(s, 0);
-            let Parse::Refused(why, kind) = x else {
-                return 0;
-            };
-            lines::put_line(out, session.number, kind as u64, why.number(), 0)
+            match x {
+                Parse::End => 0,
+                Parse::Event(e, next) => 0,
+                Parse::Refused(why, kind) => {
+                    lines::put_line(out, session.number, kind as u64, why.number(), 0)
+                }
+            }
         }
         Phase::Over => 0,
     }
