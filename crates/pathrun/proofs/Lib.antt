@@ -8,3 +8,4 @@ pub mod LayLaws
 pub mod RunLaws
 pub mod StopLaws
 pub mod StepLaws
+pub mod WholeLaws

@@ -44,6 +44,7 @@ pub record Told (l t whole : List ℕ) (at : ℕ) (r : Ran) : Type 0 where
   pub within : r .run .place ≤ length l
   pub rests : r .run .full ≡ false → lastOf (r .run .session) (drop (r .run .place) l) ≡ owed (r .run .session) (drop (r .run .place) l)
   pub gone : r .run .full ≡ true → at ≤ r .run .place
+  pub count : r .run .wrote ≡ length (r .text)
 
 -- a line that ends the session
 over-at : (l t text line : List ℕ) {rest : List ℕ} (rec : Record) (n at low : ℕ) → at ≤ length l → rest ≡ line
@@ -55,6 +56,7 @@ over-at l t text line {rest} rec n at low h e =
       within = h;
       rests = λ q. refl;
       gone = λ q. never q refl;
+      count = refl;
     }
 
 -- ---- the records within the bytes
@@ -97,12 +99,12 @@ last-is l rec n at h =
 still : (l t text : List ℕ) (rec : Record) (n at low : ℕ) → at ≤ length l → isEvent (parseOf l at) ≡ false
     → Told l t (text ++ walkAll (l ++ t) rec n at) low (halted text (sessionOf phase.Running rec n) at false)
 still l t text rec n at low h e =
-    record { same = stops l t text rec n at h; within = h; rests = λ q. last-is l rec n at e; gone = λ q. never q refl }
+    record { same = stops l t text rec n at h; within = h; rests = λ q. last-is l rec n at e; gone = λ q. never q refl; count = refl }
 
 -- a lower bound below
 told-low : {l t whole : List ℕ} {a b : ℕ} {r : Ran} → b ≤ a → Told l t whole a r → Told l t whole b r
 told-low {l} {t} {whole} {a} {b} {r} h d =
-    record { same = d .same; within = d .within; rests = d .rests; gone = λ q. omega (arith, d .gone q) }
+    record { same = d .same; within = d .within; rests = d .rests; gone = λ q. omega (arith, d .gone q); count = d .count }
 
 -- a run that stops before what is no event and not over
 rest-at : (x : Parse) (f : ℕ) (l t text : List ℕ) (rec : Record) (n at : ℕ) → at ≤ length l → parseOf l at ≡ x
@@ -148,7 +150,7 @@ told-run : (f : ℕ) (l t text : List ℕ) (rec : Record) (n at : ℕ) → at �
     → Told l t (text ++ walkAll (l ++ t) rec n at) (at + 3 * f) (ranFrom f l text rec n at)
 unfolding ranFrom
 told-run zero l t text rec n at h =
-    record { same = stops l t text rec n at h; within = h; rests = λ q. never refl q; gone = λ q. omega arith }
+    record { same = stops l t text rec n at h; within = h; rests = λ q. never refl q; gone = λ q. omega arith; count = refl }
 told-run (suc f) l t text rec n at h = turn (parseOf l at) f l t text rec n at h refl (told-run f l t)
 
 -- ---- the settings
@@ -182,7 +184,7 @@ short : (k : ℕ) (rec : Record) (n : ℕ) (l t : List ℕ) → length l < 32
     → Told l t (linesOf (l ++ t)) (3 * k) (halted [] (sessionOf phase.Settings rec n) 0 false)
 unfolding owed lastOf
 short k rec n l t h =
-    record { same = refl; within = omega arith; rests = λ q. lines-short l h; gone = λ q. never q refl }
+    record { same = refl; within = omega arith; rests = λ q. lines-short l h; gone = λ q. never q refl; count = refl }
 
 told-settings : (k : ℕ) (rec : Record) (n : ℕ) (l t : List ℕ)
     → Told l t (linesOf (l ++ t)) (3 * k) (ranSettings k (sessionOf phase.Settings rec n) l)
@@ -210,7 +212,7 @@ told-settings k rec n l t =
 
 over-still : (k : ℕ) (rec : Record) (n : ℕ) (l t : List ℕ) → Told l t [] (3 * k) (halted [] (sessionOf phase.Over rec n) 0 false)
 unfolding owed lastOf
-over-still k rec n l t = record { same = refl; within = omega arith; rests = λ q. refl; gone = λ q. never q refl }
+over-still k rec n l t = record { same = refl; within = omega arith; rests = λ q. refl; gone = λ q. never q refl; count = refl }
 
 -- a call with room for a line
 pub told : (k : ℕ) (s : Session) (l t : List ℕ) → 1 ≤ k → Told l t (owed s (l ++ t)) (3 * k) (ranOf k s l)

@@ -5,6 +5,7 @@ pub mod held;
 pub mod run;
 pub mod session;
 pub mod types;
+pub mod whole;
 
 // What portions of any lengths give is what all bytes give.
 pub fn portions()
