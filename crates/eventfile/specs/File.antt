@@ -1,12 +1,12 @@
 -- Event files (document 01, "Files and tail"): "four u64 settings, then records".
 use Prim.Native.Nat.{ℕ, zero, suc, _+_, _/_, _%_, _^_}
 use mathlib.Core.Bool.{Bool, false, not, cond, _&&_, _||_}
-use mathlib.Core.List.{List, [], _∷_, _++_}
+use mathlib.Core.List.{List, [], _∷_}
 use lib.Dec.{eqb, ltb}
 use lib.ListN.{length, drop, getD}
 use Rattle.base.specs.declared.types.Refusal.{Refusal}
 use Rattle.base.specs.declared.types.Refusal.the-variants as refusal
-use Rattle.octets.specs.Octets.{le, readAt}
+use Rattle.octets.specs.Octets.{readAt}
 use Rattle.rules.specs.Event.{Kind, kindNumber, Open, Probe, Answer, Poll, Sample, Fold, Prove, Search, Judge, Data}
 use Rattle.rules.specs.Event.{Fresh, Thaw, Sweep, Close, Choose}
 use Rattle.rules.specs.declared.types.Event.{Event}
@@ -202,20 +202,3 @@ endFrom (suc f) l at = endBy (parseOf l at) (endFrom f l)
 -- how the records after the settings end
 unfoldable pub endOf : List ℕ → Ending
 endOf l = endFrom (length l) l 32
-
--- ---- the writer
-
--- a field, if its bit stands
-abbrev pub fieldBytes : ℕ → ℕ → ℕ → ℕ → List ℕ
-fieldBytes bit width map x = cond (stands bit map) (le width x) []
-
--- the record of an event with this map: "map, kind, slot (u8), then the fields whose bit stands"
-unfoldable pub recordBytes : ℕ → Event → List ℕ
-recordBytes map e =
-    map
-    ∷ e .kind
-    ∷ e .slot
-    ∷ fieldBytes 0 8 map (e .now)
-    ++ (fieldBytes 1 8 map (e .span)
-    ++ (fieldBytes 2 4 map (e .id)
-    ++ (fieldBytes 3 2 map (e .len) ++ (fieldBytes 4 2 map (e .acked) ++ fieldBytes 5 1 map (e .flags)))))

@@ -20,41 +20,58 @@ laid-out-requires c κs = search needs
 
 returns-2 : tie.Need-returns-2
 returns-2 c =
+    let d = c .before in
     front-cut
-    (head (c .before .before .before .before .if1 .left) (c .before .before .before .byte-at .ensures) (c .before .before .byte-at2 .ensures) (c .before .laid-out .ensures))
+    (head
+    (d .before .before .before .if1 .left)
+    (d .before .before .byte-at .ensures)
+    (d .before .byte-at2 .ensures)
+    (d .laid-out .ensures))
     (c .if2 .taken)
-
-is-kindless-requires : tie.Need-is-kindless-requires
-is-kindless-requires c κs = search needs
-
-returns-3 : tie.Need-returns-3
-returns-3 c =
-    front-kind
-    (head (c .before .before .before .before .before .before .if1 .left) (c .before .before .before .before .before .byte-at .ensures) (c .before .before .before .before .byte-at2 .ensures) (c .before .before .before .laid-out .ensures))
-    (c .before .before .if2 .left)
-    (sym (c .before .is-kindless .ensures) ∙ c .if3 .taken)
 
 is-stray-requires : tie.Need-is-stray-requires
 is-stray-requires c κs = search needs
 
+returns-3 : tie.Need-returns-3
+returns-3 c =
+    let d = c .before .before .before in
+    front-kind
+    (head
+    (d .before .before .before .if1 .left)
+    (d .before .before .byte-at .ensures)
+    (d .before .byte-at2 .ensures)
+    (d .laid-out .ensures))
+    (c .before .before .if2 .left)
+    (c .if3 .taken)
+
 returns-4 : tie.Need-returns-4
 returns-4 c =
+    let d = c .before .before .before .before in
     front-map
-    (head (c .before .before .before .before .before .before .before .before .if1 .left) (c .before .before .before .before .before .before .before .byte-at .ensures) (c .before .before .before .before .before .before .byte-at2 .ensures) (c .before .before .before .before .before .laid-out .ensures))
-    (c .before .before .before .before .if2 .left)
-    (sym (c .before .before .before .is-kindless .ensures) ∙ c .before .before .if3 .left)
-    (sym (c .before .is-stray .ensures) ∙ c .if4 .taken)
+    (head
+    (d .before .before .before .if1 .left)
+    (d .before .before .byte-at .ensures)
+    (d .before .byte-at2 .ensures)
+    (d .laid-out .ensures))
+    (c .before .before .before .if2 .left)
+    (c .before .if3 .left)
+    (sym (c .before .before .is-stray .ensures) ∙ c .if4 .taken)
 
 event-of-requires : tie.Need-event-of-requires
 event-of-requires c κs = search needs
 
 returns-5 : tie.Need-returns-5
 returns-5 c =
+    let d = c .before .before .before .before .before in
     front-event
-    (head (c .before .before .before .before .before .before .before .before .before .if1 .left) (c .before .before .before .before .before .before .before .before .byte-at .ensures) (c .before .before .before .before .before .before .before .byte-at2 .ensures) (c .before .before .before .before .before .before .laid-out .ensures))
-    (c .before .before .before .before .before .if2 .left)
-    (sym (c .before .before .before .before .is-kindless .ensures) ∙ c .before .before .before .if3 .left)
-    (sym (c .before .before .is-stray .ensures) ∙ c .before .if4 .left)
+    (head
+    (d .before .before .before .if1 .left)
+    (d .before .before .byte-at .ensures)
+    (d .before .byte-at2 .ensures)
+    (d .laid-out .ensures))
+    (c .before .before .before .before .if2 .left)
+    (c .before .before .if3 .left)
+    (sym (c .before .before .before .is-stray .ensures) ∙ c .before .if4 .left)
     (c .event-of .ensures)
 
 pub front-spec : {M : Type 1} → statement M
@@ -66,9 +83,8 @@ front-spec =
     byte-at-requires-2
     laid-out-requires
     returns-2
-    is-kindless-requires
-    returns-3
     is-stray-requires
+    returns-3
     returns-4
     event-of-requires
     returns-5)

@@ -1,11 +1,11 @@
--- `eventfile::fields::byte_at` meets its contract.
+-- `eventfile::places::byte_at` meets its contract.
 -- Assumes nothing.
 use mathlib.Core.Path.{sym}
 use denote.Ref.{now}
 use lib.ListN.{List·getD-eq-default}
 use borrow.Author.Needs.{needs}
-use Rattle.eventfile.proofs.fields.byte_at.Statement.{statement}
-use Rattle.eventfile.proofs.fields.byte_at.Tie as tie
+use Rattle.eventfile.proofs.places.byte_at.Statement.{statement}
+use Rattle.eventfile.proofs.places.byte_at.Tie as tie
 
 shared-slice-read-result : tie.Need-shared-slice-read-result
 shared-slice-read-result c = search needs

@@ -1,9 +1,9 @@
--- `eventfile::fields::laid_out` meets its contract.
+-- `eventfile::places::laid_out` meets its contract.
 -- Assumes nothing.
 use Rattle.eventfile.proofs.FrontLaws.{laid}
 use borrow.Author.Needs.{needs}
-use Rattle.eventfile.proofs.fields.laid_out.Statement.{statement}
-use Rattle.eventfile.proofs.fields.laid_out.Tie as tie
+use Rattle.eventfile.proofs.places.laid_out.Statement.{statement}
+use Rattle.eventfile.proofs.places.laid_out.Tie as tie
 
 bytes-of-requires : tie.Need-bytes-of-requires
 bytes-of-requires c κs = search needs

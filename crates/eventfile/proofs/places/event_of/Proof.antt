@@ -1,10 +1,10 @@
--- `eventfile::fields::event_of` meets its contract.
+-- `eventfile::places::event_of` meets its contract.
 -- Assumes nothing.
 use denote.Ref.{now}
 use Rattle.eventfile.proofs.FrontLaws.{event-is}
 use borrow.Author.Needs.{needs}
-use Rattle.eventfile.proofs.fields.event_of.Statement.{statement}
-use Rattle.eventfile.proofs.fields.event_of.Tie as tie
+use Rattle.eventfile.proofs.places.event_of.Statement.{statement}
+use Rattle.eventfile.proofs.places.event_of.Tie as tie
 
 laid-out-requires : tie.Need-laid-out-requires
 laid-out-requires c κs = search needs

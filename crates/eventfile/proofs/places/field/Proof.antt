@@ -1,9 +1,9 @@
--- `eventfile::fields::field` meets its contract.
+-- `eventfile::places::field` meets its contract.
 -- Assumes nothing.
 use Rattle.octets.proofs.Read.{none-small}
 use borrow.Author.Needs.{needs}
-use Rattle.eventfile.proofs.fields.field.Statement.{statement}
-use Rattle.eventfile.proofs.fields.field.Tie as tie
+use Rattle.eventfile.proofs.places.field.Statement.{statement}
+use Rattle.eventfile.proofs.places.field.Tie as tie
 
 get-requires : tie.Need-get-requires
 get-requires c κs = search needs
