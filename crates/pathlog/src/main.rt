@@ -5,7 +5,9 @@
 // come in its claim `portions`. Left here, and stated by no contract: that the bytes of standard input are read in
 // their order, that a call gets those that the last one left and those read since, and that what it wrote is written.
 // A program has no exit status of its own: one that cannot read or write says so on standard error, and ends.
-use libc::{STDERR_FILENO, STDIN_FILENO, STDOUT_FILENO};
+use libc::STDERR_FILENO;
+use libc::STDIN_FILENO;
+use libc::STDOUT_FILENO;
 use live::types::Liveness;
 use pathrun::types::*;
 use rules::types::*;
@@ -67,7 +69,12 @@ fn call_part(session: Session, buf: &[u8], p: usize, n: usize, out: &mut [u8]) -
             return pathrun::session::step(session, &buf[p..n], out);
         }
     }
-    Run { session: session, place: 0, wrote: 0, full: false }
+    Run {
+        session: session,
+        place: 0,
+        wrote: 0,
+        full: false,
+    }
 }
 
 fn call(session: Session, buf: &[u8; 65536], p: usize, n: usize, out: &mut [u8; 65536]) -> Run {

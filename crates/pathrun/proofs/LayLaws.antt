@@ -2,18 +2,15 @@
 -- Assumes nothing.
 use Prim.Native.Nat.{ℕ, _+_, _-_, _<_, _≤_}
 use mathlib.Core.Path.{_≡_, refl, sym, ap, _∙_}
-use mathlib.Core.Bool.{cond}
 use mathlib.Core.List.{List, [], _∷_, _++_, append-assoc, append-nil}
 use native.Mathlib.Omega.{arith}
 use native.Mathlib.Nat.{le-of-eq}
-use borrow.Author.Tests.{le-leb, lt-leb}
 use borrow.Rule.Slice.PartMut.{midOf, postOf, putMid}
-use lib.Dec.{leb}
 use lib.ListN.{length, take, drop, length-append, length-drop, drop-of-length-le}
 use lib.Seq.{take-all, take-at, drop-at, drop-drop}
 use Rattle.base.proofs.Cases.{on-order}
 use Rattle.octets.specs.Octets.{over}
-use Rattle.octets.proofs.Fill.{Filled, over-fits, over-not, filled-length}
+use Rattle.octets.proofs.Fill.{Filled, over-fits, over-not}
 use Rattle.lines.specs.Text.{written}
 use Rattle.lines.proofs.TextLaws.{all-written, none-written}
 use Rattle.pathrun.specs.Sessions.{laidAt}

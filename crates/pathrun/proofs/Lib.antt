@@ -1,5 +1,4 @@
 -- Laws that the proofs cite.
-pub mod FileLaws
 pub mod WalkLaws
 pub mod SessionLaws
 pub mod PortionLaws

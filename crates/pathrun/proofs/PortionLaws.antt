@@ -1,17 +1,16 @@
 -- Portions of any lengths, fed one after the other, give the lines of all bytes.
 -- Assumes nothing.
-use Prim.Native.Nat.{ℕ, zero, suc, _+_, _*_, _-_, _<_, _≤_}
-use mathlib.Core.Path.{_≡_, refl, sym, ap, _∙_, subst}
-use mathlib.Core.Bool.{Bool, true, false, cond}
+use Prim.Native.Nat.{ℕ, zero, suc, _+_, _≤_}
+use mathlib.Core.Path.{_≡_, sym, ap, _∙_, subst}
+use mathlib.Core.Bool.{Bool, false, cond}
 use mathlib.Core.List.{List, [], _∷_, _++_, append-assoc, append-nil}
 use native.Mathlib.Omega.{arith}
 use lib.ListN.{length, drop, length-drop}
-use Rattle.base.proofs.Cases.{on-flag, never}
-use Rattle.pathrun.specs.Lines.{linesOf}
+use Rattle.base.proofs.Cases.{on-flag}
 use Rattle.pathrun.specs.Sessions.{begun, ranOf, lastOf}
 use Rattle.pathrun.specs.Portions.{Fed, behind, leftBy, calls, fed, joined, PortionsHold}
 use Rattle.pathrun.specs.declared.types.Session.{Session}
-use Rattle.pathrun.proofs.SessionLaws.{owed, Told, told, lines-short}
+use Rattle.pathrun.proofs.SessionLaws.{owed, told, lines-short}
 
 -- what calls wrote, and then what is owed for the bytes held and any after them, is what was owed; nothing whole is left
 pub record Done (s : Session) (l : List ℕ) (d : Fed) : Type 0 where

@@ -1,9 +1,9 @@
 -- The loop of a run: of at most `most` records i are done, and their lines stand at the front of the lent bytes.
 -- Assumes nothing.
-use Prim.Native.Nat.{ℕ, zero, suc, _+_, _-_, _*_, _/_, _%_, _^_, _<_, _≤_}
-use mathlib.Core.Path.{_≡_, refl, sym, ap, _∙_}
+use Prim.Native.Nat.{ℕ, suc, _+_, _-_, _*_, _/_, _%_, _^_, _<_, _≤_}
+use mathlib.Core.Path.{_≡_, refl, sym, _∙_}
 use mathlib.Core.Bool.{Bool, true, false, cond, _||_}
-use mathlib.Core.List.{List, [], _∷_, _++_, append-nil}
+use mathlib.Core.List.{List, [], _++_}
 use native.Mathlib.Omega.{arith}
 use borrow.Author.Tests.{eqb-true, ltb-true, ltb-false}
 use lib.Dec.{eqb, ltb}
@@ -11,10 +11,9 @@ use lib.ListN.{length, drop, getD, set, length-append, length-set}
 use Rattle.base.specs.Refusals.{refusalNumber}
 use Rattle.base.proofs.Cases.{on-flag, never}
 use Rattle.octets.specs.Octets.{over}
-use Rattle.octets.proofs.Fill.{Filled, nothing, filled-length, filled-over}
+use Rattle.octets.proofs.Fill.{Filled, nothing, filled-over}
 use Rattle.rules.specs.Rules.{emptySlot, onSlot}
 use Rattle.rules.specs.Step.{step}
-use Rattle.rules.specs.declared.types.Settings.{Settings}
 use Rattle.rules.specs.declared.types.Slot.{Slot}
 use Rattle.rules.specs.declared.types.Event.{Event}
 use Rattle.rules.specs.declared.types.Record.{Record}
@@ -27,8 +26,7 @@ use Rattle.eventfile.specs.declared.types.Parse.{Parse}
 use Rattle.eventfile.specs.declared.types.Parse.the-variants as parse
 use Rattle.lines.specs.Text.{lineOf, written}
 use Rattle.lines.proofs.TextLaws.{line-few}
-use Rattle.pathrun.specs.Lines.{numberAfter}
-use Rattle.pathrun.specs.Sessions.{sessionOf, Ran, halted, eventLine, stillOf, stopLine, stopPhase, stopped, stoppedAt, ranBy, ranFrom, laidAt}
+use Rattle.pathrun.specs.Sessions.{sessionOf, Ran, halted, eventLine, stillOf, stopLine, stopPhase, stopped, ranAt, stoppedAt, ranBy, ranFrom, laidAt}
 use Rattle.pathrun.specs.declared.types.Phase.the-variants as phase
 use Rattle.pathrun.specs.declared.types.Run.{Run}
 use Rattle.pathrun.proofs.LayLaws.{lay-filled}
@@ -129,7 +127,7 @@ module _ {l₀ l : List ℕ} {rec₀ : Record} {n₀ p₀ most : ℕ} {out : Lis
 
   -- the run stops before what is no event
   pub going-stop : {x : Parse} {r : Run} {m : List ℕ} → i < most → x ≡ parseOf l p → isEvent x ≡ false
-      → r ≡ stoppedAt rec n x p out at → m ≡ laidAt at (stopLine x n) out
+      → r ≡ stoppedAt (rec .settings) (rec .slots) n x p out at → m ≡ laidAt at (stopLine x n) out
       → (r ≡ ranFrom (length l₀ / 84) l [] rec₀ n₀ p₀ .run) × (m ≡ over (ranFrom (length l₀ / 84) l [] rec₀ n₀ p₀ .text) l₀)
   going-stop {x} {r} {m} h e v a b =
       let k : ranFrom (length l₀ / 84) l [] rec₀ n₀ p₀ ≡ stopped x (g .text) rec n p =
@@ -141,16 +139,14 @@ module _ {l₀ l : List ℕ} {rec₀ : Record} {n₀ p₀ most : ℕ} {out : Lis
       )
 
   -- the run stops for want of room
-  pub going-full : most ≤ i
-      → (_≡_ {A = Run} (record { session = sessionOf phase.Running rec n; place = p; wrote = at; full = true })
-      (ranFrom (length l₀ / 84) l [] rec₀ n₀ p₀ .run))
-      × (out ≡ over (ranFrom (length l₀ / 84) l [] rec₀ n₀ p₀ .text) l₀)
+  pub going-full : {r : Run} → most ≤ i → r ≡ ranAt (rec .settings) (rec .slots) n phase.Running p at true
+      → (r ≡ ranFrom (length l₀ / 84) l [] rec₀ n₀ p₀ .run) × (out ≡ over (ranFrom (length l₀ / 84) l [] rec₀ n₀ p₀ .text) l₀)
   unfolding ranFrom
-  going-full h =
+  going-full {r} h q =
       let z : most - i ≡ 0 = omega arith in
       let k : ranFrom (length l₀ / 84) l [] rec₀ n₀ p₀ ≡ halted (g .text) (sessionOf phase.Running rec n) p true =
       g .is ∙ (λ j. ranFrom (z j) l (g .text) rec n p) in (
-        (λ j. record { session = sessionOf phase.Running rec n; place = p; wrote = sym (g .filled .long) j; full = true }) ∙ sym (λ j. k j .run),
+        q ∙ (λ j. record { session = sessionOf phase.Running rec n; place = p; wrote = sym (g .filled .long) j; full = true }) ∙ sym (λ j. k j .run),
         filled-over (g .filled) ∙ (λ j. over (sym k j .text) l₀),
       )
 

@@ -4,15 +4,15 @@
 use Prim.Native.Nat.{ℕ, zero, suc, _+_, _*_, _<_, _≤_}
 use mathlib.Core.Path.{_≡_, refl, sym, ap, _∙_, subst}
 use mathlib.Core.Bool.{Bool, true, false, cond}
-use mathlib.Core.List.{List, [], _∷_, _++_, append-assoc, append-nil}
+use mathlib.Core.List.{List, [], _++_, append-assoc, append-nil}
 use native.Mathlib.Omega.{arith}
-use borrow.Author.Tests.{le-ltb, lt-ltb, ltb-true, ltb-false, ne-eqb}
-use lib.Dec.{eqb, ltb}
-use lib.ListN.{length, drop, length-append, length-drop}
+use borrow.Author.Tests.{le-ltb, lt-ltb, eq-eqb, ne-eqb}
+use lib.Dec.{eqb}
+use lib.ListN.{length, drop, length-append}
 use lib.Seq.{drop-append-le}
 use Rattle.base.specs.Refusals.{refusalNumber}
 use Rattle.base.proofs.Cases.{on-flag, on-order, never}
-use Rattle.octets.specs.Octets.{readAt}
+use Rattle.octets.proofs.Read.{read-more}
 use Rattle.rules.specs.Step.{step, allowed, freshRecord, trace}
 use Rattle.rules.specs.declared.types.Record.{Record}
 use Rattle.rules.specs.declared.types.Settings.{Settings}
@@ -21,11 +21,11 @@ use Rattle.eventfile.specs.declared.types.Parse.{Parse}
 use Rattle.eventfile.specs.declared.types.Parse.the-variants as parse
 use Rattle.lines.specs.Text.{lineOf}
 use Rattle.pathrun.specs.Lines.{numberAfter, linesFrom, linesOf}
-use Rattle.pathrun.specs.Sessions.{sessionOf, overOf, Ran, halted, eventLine, stopLine, stopPhase, stopped, ranBy, ranFrom, ranSettings, ranIn, ranOf, lastBy, lastIn, lastOf}
+use Rattle.pathrun.specs.Sessions.{sessionOf, overOf, Ran, halted, eventLine, stopLine, stopPhase, stopped, ranBy, ranFrom, ranSettings, ranIn, ranOf, lastBy, lastOf}
 use Rattle.pathrun.specs.declared.types.Phase.{Phase}
 use Rattle.pathrun.specs.declared.types.Phase.the-variants as phase
 use Rattle.pathrun.specs.declared.types.Session.{Session}
-use Rattle.pathrun.proofs.FileLaws.{read-more, isWhole, parse-more, next-in, parse-shift}
+use Rattle.eventfile.proofs.ReadLaws.{event-stays, refused-stays, parse-stands, parse-shift, Stands}
 use Rattle.pathrun.proofs.WalkLaws.{walkBy, walkAll, walk-is, walk-open, walk-drop}
 
 -- the lines that a session still owes where the rest of the input is l
@@ -93,7 +93,7 @@ unfolding owed lastOf
 last-is l rec n at h =
     let z : at + 0 ≡ at = omega arith in
     let e : isEvent (parseOf (drop at l) 0) ≡ false =
-    sym (event-from at (parseOf (drop at l) 0)) ∙ sym (ap isEvent (parse-shift at 0 l)) ∙ (λ j. isEvent (parseOf l (z j))) ∙ h in
+    sym (event-from at (parseOf (drop at l) 0)) ∙ sym (ap isEvent (parse-shift l at 0)) ∙ (λ j. isEvent (parseOf l (z j))) ∙ h in
     last-by (parseOf (drop at l) 0) rec n (walkAll (drop at l)) e ∙ sym (walk-open (drop at l) rec n 0)
 
 still : (l t text : List ℕ) (rec : Record) (n at low : ℕ) → at ≤ length l → isEvent (parseOf l at) ≡ false
@@ -128,15 +128,14 @@ turn (parse.Refused why k) f l t text rec n at h e ih =
     rest-at (parse.Refused why k) f l t text rec n at h e refl (λ j. cond (c j) [] line)
     (λ j. cond (c j) phase.Running phase.Over))
     (λ c.
-    let w : isWhole (parseOf l at) ≡ true = ap isWhole e ∙ (λ j. cond (c j) false true) in
-    let p : parseOf (l ++ t) at ≡ parse.Refused why k = parse-more l t at w ∙ e in
+    let p : parseOf (l ++ t) at ≡ parse.Refused why k = refused-stays l t at (λ z. never (eq-eqb (refusalNumber why) 13 z) c) e in
     subst (λ (b : Bool). Told l t (text ++ walkAll (l ++ t) rec n at) (at + 3 * suc f)
     (halted (text ++ cond b [] line) (sessionOf (cond b phase.Running phase.Over) rec n) at false)) (sym c)
     (over-at l t text line rec n at (at + 3 * suc f) h
     (walk-open (l ++ t) rec n at ∙ (λ j. walkBy (p j) (walkAll (l ++ t)) rec n))))
 turn (parse.Event v next) f l t text rec n at h e ih =
-    let b = next-in l at next v e in
-    let p : parseOf (l ++ t) at ≡ parse.Event v next = parse-more l t at (ap isWhole e) ∙ e in
+    let b = subst (Stands l at) e (parse-stands l at) in
+    let p : parseOf (l ++ t) at ≡ parse.Event v next = event-stays l t at e in
     let line = eventLine n v (step rec v .reply) in
     let rest = walkAll (l ++ t) (step rec v .next) (numberAfter n) next in
     let w : (text ++ line) ++ rest ≡ text ++ walkAll (l ++ t) rec n at =

@@ -3,13 +3,12 @@
 use Prim.Native.Nat.{ℕ, _/_, _<_, _≤_}
 use mathlib.Core.Path.{_≡_, refl, sym, ap, _∙_}
 use mathlib.Core.Bool.{Bool, true, false, cond}
-use mathlib.Core.List.{List, [], _∷_, _++_}
+use mathlib.Core.List.{List, []}
 use native.Mathlib.Omega.{arith}
 use borrow.Author.Tests.{eq-eqb, ne-eqb, lt-ltb, le-ltb}
 use lib.Dec.{eqb, ltb}
 use lib.ListN.{length}
 use Rattle.base.specs.declared.types.Refusal.the-variants as refusal
-use Rattle.base.proofs.Cases.{on-flag, never}
 use Rattle.octets.specs.Octets.{over}
 use Rattle.rules.specs.Event.{numberOf}
 use Rattle.rules.specs.Step.{allowed, freshRecord, recordOf}
@@ -20,7 +19,7 @@ use Rattle.rules.specs.declared.types.Reply.the-variants as reply
 use Rattle.eventfile.specs.File.{settingsOf}
 use Rattle.lines.specs.Text.{lineOf, written}
 use Rattle.lines.proofs.TextLaws.{line-few, all-written}
-use Rattle.pathrun.specs.Sessions.{sessionOf, overOf, Ran, halted, ranFrom, ranIn, ranOf}
+use Rattle.pathrun.specs.Sessions.{overOf, Ran, halted, stayed, ranFrom, ranIn, ranOf}
 use Rattle.pathrun.specs.declared.types.Phase.{Phase}
 use Rattle.pathrun.specs.declared.types.Phase.the-variants as phase
 use Rattle.pathrun.specs.declared.types.Session.{Session}
@@ -33,9 +32,9 @@ pub step-as : (k : ℕ) (s : Session) (l o : List ℕ) {a : Ran} {r : Run} {m : 
 step-as k s l o e x y = (x ∙ (λ j. sym e j .run), y ∙ (λ j. over (sym e j .text) o))
 
 -- a call that writes nothing
-pub step-none : (k : ℕ) (s t : Session) (l o : List ℕ) (at : ℕ) (full : Bool) → ranOf k s l ≡ halted [] t at full
-    → (_≡_ {A = Run} (record { session = t; place = at; wrote = 0; full = full }) (ranOf k s l .run)) × (o ≡ over (ranOf k s l .text) o)
-step-none k s t l o at full e = step-as k s l o e refl (none-laid o .1)
+pub step-stay : (k : ℕ) (s : Session) (l o : List ℕ) (full : Bool) {r : Run} → ranOf k s l ≡ halted [] s 0 full → r ≡ stayed s full
+    → (r ≡ ranOf k s l .run) × (o ≡ over (ranOf k s l .text) o)
+step-stay k s l o full e q = step-as k s l o e q (none-laid o .1)
 
 -- no room for a line
 pub ran-small : (o : List ℕ) (s : Session) (l : List ℕ) → length o < 84 → ranOf (length o / 84) s l ≡ halted [] s 0 true

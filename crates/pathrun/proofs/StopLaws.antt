@@ -2,9 +2,9 @@
 -- and the end of the input.
 -- Assumes nothing.
 use Prim.Native.Nat.{ℕ, _+_}
-use mathlib.Core.Path.{_≡_, refl, sym, ap, _∙_}
+use mathlib.Core.Path.{_≡_, sym, ap, _∙_}
 use mathlib.Core.Bool.{true, false, cond}
-use mathlib.Core.List.{List, [], _∷_, _++_}
+use mathlib.Core.List.{List, [], _++_}
 use native.Mathlib.Omega.{arith}
 use borrow.Author.Tests.{eq-eqb}
 use lib.Dec.{eqb, leb}
@@ -19,7 +19,6 @@ use Rattle.rules.specs.Step.{recordOf}
 use Rattle.rules.specs.declared.types.Settings.{Settings}
 use Rattle.rules.specs.declared.types.Slot.{Slot}
 use Rattle.rules.specs.declared.types.Event.{Event}
-use Rattle.rules.specs.declared.types.Record.{Record}
 use Rattle.rules.specs.declared.types.Reply.{Reply}
 use Rattle.rules.specs.declared.types.Turn.{Turn}
 use Rattle.rules.specs.declared.types.Stepped.{Stepped}
@@ -28,7 +27,7 @@ use Rattle.eventfile.specs.File.{parseOf}
 use Rattle.eventfile.specs.declared.types.Parse.{Parse}
 use Rattle.eventfile.specs.declared.types.Parse.the-variants as parse
 use Rattle.lines.specs.Text.{lineOf, written}
-use Rattle.pathrun.specs.Sessions.{noSettings, sessionOf, begun, stillOf, stopLine, stopPhase, stoppedAt, laidAt, lastBy, lastIn, lastOf}
+use Rattle.pathrun.specs.Sessions.{noSettings, sessionOf, begun, stillOf, stopLine, stopPhase, ranAt, stoppedAt, laidAt, lastBy, lastIn, lastOf}
 use Rattle.pathrun.specs.declared.types.Phase.the-variants as phase
 use Rattle.pathrun.specs.declared.types.Session.{Session}
 use Rattle.pathrun.specs.declared.types.Run.{Run}
@@ -78,31 +77,29 @@ waits-cut {x} {why} {k} {r} e a b =
 pub none-laid : (l : List ℕ) → (0 ≡ written [] l) × (l ≡ over [] l)
 none-laid l = (sym (cond-same (leb 0 (length l)) 0), sym (over-fits [] l (omega arith)))
 
-pub stop-rest : (rec : Record) (n : ℕ) (x : Parse) (p : ℕ) (l : List ℕ) (at : ℕ) → Waits x
-    → (_≡_ {A = Run} (record { session = sessionOf phase.Running rec n; place = p; wrote = at; full = false }) (stoppedAt rec n x p l at))
-    × (l ≡ laidAt at (stopLine x n) l)
-stop-rest rec n x p l at w =
+pub stop-rest : (t : Settings) (slots : List Slot) (n : ℕ) (x : Parse) (p : ℕ) (l : List ℕ) (at : ℕ) {r : Run} → Waits x
+    → r ≡ ranAt t slots n phase.Running p at false
+    → (r ≡ stoppedAt t slots n x p l at) × (l ≡ laidAt at (stopLine x n) l)
+stop-rest t slots n x p l at w q =
     let z = none-laid (drop at l) in
     let a : at ≡ at + written (stopLine x n) (drop at l) =
     omega (arith, z .0) ∙ (λ j. at + written (sym (w .line n) j) (drop at l)) in (
-      (λ j. record { session = sessionOf (sym (w .stays) j) rec n; place = p; wrote = a j; full = false }),
+      q ∙ (λ j. ranAt t slots n (sym (w .stays) j) p (a j) false),
       sym (take-append-drop at l) ∙ (λ j. take at l ++ (z .1) j) ∙ (λ j. laidAt at (sym (w .line n) j) l),
     )
 
-pub stop-over : (rec : Record) (n : ℕ) {x : Parse} {why : Refusal} {k r end : ℕ} (p : ℕ) (l : List ℕ) (at : ℕ) {m : List ℕ}
-    → x ≡ parse.Refused why k → r ≡ refusalNumber why → eqb r 13 ≡ false
+pub stop-over : (t : Settings) (slots : List Slot) (n : ℕ) {x : Parse} {why : Refusal} {k r end : ℕ} (p : ℕ) (l : List ℕ) (at : ℕ)
+    {m : List ℕ} {v : Run} → x ≡ parse.Refused why k → r ≡ refusalNumber why → eqb r 13 ≡ false
     → (end ≡ at + written (lineOf n k r 0) (drop at l)) × (m ≡ laidAt at (lineOf n k r 0) l)
-    → (_≡_ {A = Run} (record { session = sessionOf phase.Over rec n; place = p; wrote = end; full = false }) (stoppedAt rec n x p l at))
-    × (m ≡ laidAt at (stopLine x n) l)
-stop-over rec n {x} {why} {k} {r} {end} p l at {m} e a b h =
+    → v ≡ ranAt t slots n phase.Over p end false
+    → (v ≡ stoppedAt t slots n x p l at) × (m ≡ laidAt at (stopLine x n) l)
+stop-over t slots n {x} {why} {k} {r} {end} p l at {m} {v} e a b h q =
     let c : eqb (refusalNumber why) 13 ≡ false = (λ j. eqb (sym a j) 13) ∙ b in
     let line : lineOf n k r 0 ≡ stopLine x n =
     (λ j. lineOf n k (a j) 0) ∙ sym (λ j. cond (c j) [] (lineOf n k (refusalNumber why) 0)) ∙ ap (λ (z : Parse). stopLine z n) (sym e) in
     let over : phase.Over ≡ stopPhase x = sym (λ j. cond (c j) phase.Running phase.Over) ∙ ap stopPhase (sym e) in
-    let w : end ≡ at + written (stopLine x n) (drop at l) = h .0 ∙ (λ j. at + written (line j) (drop at l)) in (
-      (λ j. record { session = sessionOf (over j) rec n; place = p; wrote = w j; full = false }),
-      h .1 ∙ (λ j. laidAt at (line j) l),
-    )
+    let w : end ≡ at + written (stopLine x n) (drop at l) = h .0 ∙ (λ j. at + written (line j) (drop at l)) in
+    (q ∙ (λ j. ranAt t slots n (over j) p (w j) false), h .1 ∙ (λ j. laidAt at (line j) l))
 
 -- ---- a session
 

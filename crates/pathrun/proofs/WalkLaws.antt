@@ -1,21 +1,21 @@
 -- The lines of the bytes from a place on, record by record: they are those of `trace`; it does not matter how many
 -- records are allowed once they are enough, nor which bytes stand before.
 -- Assumes nothing.
-use Prim.Native.Nat.{ℕ, zero, suc, _+_, _<_, _≤_}
+use Prim.Native.Nat.{ℕ, zero, suc, _+_, _≤_}
 use mathlib.Core.Path.{_≡_, refl, sym, ap, _∙_, subst}
-use mathlib.Core.List.{List, [], _∷_, _++_}
+use mathlib.Core.List.{List, [], _++_}
 use native.Mathlib.Omega.{arith}
 use lib.ListN.{length, drop, length-drop}
 use Rattle.base.specs.Refusals.{refusalNumber}
 use Rattle.rules.specs.Step.{step, trace}
 use Rattle.rules.specs.declared.types.Record.{Record}
-use Rattle.eventfile.specs.File.{Ending, parseOf, eventsBy, eventsFrom, endBy, endFrom, from}
+use Rattle.eventfile.specs.File.{parseOf, eventsBy, eventsFrom, endBy, endFrom, from}
 use Rattle.eventfile.specs.declared.types.Parse.{Parse}
 use Rattle.eventfile.specs.declared.types.Parse.the-variants as parse
 use Rattle.lines.specs.Text.{lineOf}
 use Rattle.pathrun.specs.Lines.{numberAfter, linesFrom}
 use Rattle.pathrun.specs.Sessions.{eventLine}
-use Rattle.pathrun.proofs.FileLaws.{next-in, parse-none, parse-shift}
+use Rattle.eventfile.proofs.ReadLaws.{parse-end, parse-stands, parse-shift, Stands}
 
 -- the lines of what stands at a place and, by `more`, of what follows it
 abbrev pub walkBy : Parse → (Record → ℕ → ℕ → List ℕ) → Record → ℕ → List ℕ
@@ -47,7 +47,7 @@ walk-is (suc f) l rec n at = walk-by (parseOf l at) f l rec n (walk-is f l)
 pub walk-none : (f : ℕ) (l : List ℕ) (rec : Record) (n at : ℕ) → length l ≤ at → walk f l rec n at ≡ []
 unfolding walk
 walk-none zero l rec n at h = refl
-walk-none (suc f) l rec n at h = λ j. walkBy (parse-none l at h j) (walk f l) rec n
+walk-none (suc f) l rec n at h = λ j. walkBy (sym (parse-end l at h) j) (walk f l) rec n
 
 -- one more record allowed changes nothing once they are enough: each has a byte
 more-by : (x : Parse) (f : ℕ) (l : List ℕ) (rec : Record) (n at : ℕ) → parseOf l at ≡ x → length l ≤ at + suc f
@@ -56,7 +56,7 @@ more-by : (x : Parse) (f : ℕ) (l : List ℕ) (rec : Record) (n at : ℕ) → p
 more-by parse.End f l rec n at e h ih = refl
 more-by (parse.Refused why k) f l rec n at e h ih = refl
 more-by (parse.Event v next) f l rec n at e h ih =
-    let b = next-in l at next v e in
+    let b = subst (Stands l at) e (parse-stands l at) in
     ap (λ (z : List ℕ). eventLine n v (step rec v .reply) ++ z)
     (ih (step rec v .next) (numberAfter n) next (omega (arith, b .0, h)))
 
@@ -92,7 +92,7 @@ pub walk-shift : (p f : ℕ) (l : List ℕ) (rec : Record) (n at : ℕ)
 unfolding walk
 walk-shift p zero l rec n at = refl
 walk-shift p (suc f) l rec n at =
-    (λ j. walkBy (parse-shift p at l j) (walk f l) rec n)
+    (λ j. walkBy (parse-shift l p at j) (walk f l) rec n)
     ∙ shift-by p (parseOf (drop p l) at) f l rec n (walk-shift p f l)
 
 -- ---- with as many records allowed as there are bytes

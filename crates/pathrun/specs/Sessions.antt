@@ -1,7 +1,7 @@
 -- A session reads the input portion by portion: what a call on the bytes held writes, and where it leaves the session.
 use Prim.Native.Nat.{ℕ, zero, suc, _+_, _-_, _/_}
 use mathlib.Core.Bool.{Bool, true, false, cond}
-use mathlib.Core.List.{List, [], _∷_, _++_}
+use mathlib.Core.List.{List, [], _++_}
 use lib.Dec.{eqb, ltb}
 use lib.ListN.{length, take, drop}
 use Rattle.base.specs.Refusals.{refusalNumber}
@@ -104,6 +104,10 @@ ranIn phase.Over f s l = halted [] s 0 false
 unfoldable pub ranOf : ℕ → Session → List ℕ → Ran
 ranOf f s l = cond (eqb f 0) (halted [] s 0 true) (ranIn (s .phase) f s l)
 
+-- the answer of a call that reads and writes nothing
+abbrev pub stayed : Session → Bool → Run
+stayed s full = halted [] s 0 full .run
+
 -- a line has at most 84 bytes: four numbers of at most 20 places, a byte behind each
 abbrev pub linesIn : List ℕ → ℕ
 linesIn out = length out / 84
@@ -131,15 +135,20 @@ lastOf s l = lastIn (s .phase) s l
 abbrev pub laidAt : ℕ → List ℕ → List ℕ → List ℕ
 laidAt at line l = take at l ++ over line (drop at l)
 
--- a run that stops before what stands at a place, with `at` bytes written before
-abbrev pub stoppedAt : Record → ℕ → Parse → ℕ → List ℕ → ℕ → Run
-stoppedAt rec n x place out at =
+-- where a run stands
+abbrev pub ranAt : Settings → List Slot → ℕ → Phase → ℕ → ℕ → Bool → Run
+ranAt t slots n p place wrote full =
     record {
-      session = sessionOf (stopPhase x) rec n;
+      session = sessionOf p (record { settings = t; slots = slots }) n;
       place = place;
-      wrote = at + written (stopLine x n) (drop at out);
-      full = false;
+      wrote = wrote;
+      full = full;
     }
+
+-- a run that stops before what stands at a place, with `at` bytes written before
+abbrev pub stoppedAt : Settings → List Slot → ℕ → Parse → ℕ → List ℕ → ℕ → Run
+stoppedAt t slots n x place out at =
+    ranAt t slots n (stopPhase x) place (at + written (stopLine x n) (drop at out)) false
 
 -- the bytes from a place on and before another
 abbrev pub partOf : ℕ → ℕ → List ℕ → List ℕ

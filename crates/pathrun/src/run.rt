@@ -5,7 +5,7 @@ ghost use Prim.Native.Nat.{_+_};
 ghost use lib.ListN.{drop};
 ghost use Rattle.lines.specs.Text.{lineOf, written};
 ghost use Rattle.octets.specs.Octets.{over};
-ghost use Rattle.pathrun.specs.Sessions.{eventLine, stillOf, laidAt, stopLine, stoppedAt, linesIn, ranFrom};
+ghost use Rattle.pathrun.specs.Sessions.{eventLine, stillOf, laidAt, stopLine, stoppedAt, linesIn, ranAt, ranFrom};
 use crate::types::*;
 use base::types::Refusal;
 use eventfile::types::Parse;
@@ -52,22 +52,49 @@ fn still(settings: Settings, slots: [Slot; PATH_MAX_PER_PEER], e: Event) -> Repl
     t.reply
 }
 
-// Stops before what stands at a place and is no event, with `at` bytes written: a record that can't be read ends the
-// session with its line, but one that is cut short waits for more bytes.
-fn stop(rec: Record, number: u64, x: Parse, place: usize, out: &mut [u8], at: usize) -> Run
-    ensures { λ r. ⌜ (r ≡ stoppedAt rec number x place (now (out .entry)) at) × (now (out .exit) ≡ laidAt at (stopLine x number) (now (out .entry))) ⌝ }
+// Where a run stands: the slots under their settings, the number of the next record, what is awaited, and the places.
+fn ran(
+    settings: Settings,
+    slots: [Slot; PATH_MAX_PER_PEER],
+    number: u64,
+    phase: Phase,
+    place: usize,
+    wrote: usize,
+    full: bool,
+) -> Run
+    ensures { λ r. ⌜ r ≡ ranAt settings slots number phase place wrote full ⌝ }
 {
-    let waits = Session {
+    let rec = Record {
+        settings: settings,
+        slots: slots,
+    };
+    let session = Session {
         rec: rec,
         number: number,
-        phase: Phase::Running,
+        phase: phase,
     };
-    let rest = Run {
-        session: waits,
+    Run {
+        session: session,
         place: place,
-        wrote: at,
-        full: false,
-    };
+        wrote: wrote,
+        full: full,
+    }
+}
+
+// Stops before what stands at a place and is no event, with `at` bytes written: a record that can't be read ends the
+// session with its line, but one that is cut short waits for more bytes.
+fn stop(
+    settings: Settings,
+    slots: [Slot; PATH_MAX_PER_PEER],
+    number: u64,
+    x: Parse,
+    place: usize,
+    out: &mut [u8],
+    at: usize,
+) -> Run
+    ensures { λ r. ⌜ (r ≡ stoppedAt settings slots number x place (now (out .entry)) at) × (now (out .exit) ≡ laidAt at (stopLine x number) (now (out .entry))) ⌝ }
+{
+    let rest = ran(settings, slots, number, Phase::Running, place, at, false);
     match x {
         Parse::End => rest,
         Parse::Event(e, next) => rest,
@@ -77,17 +104,7 @@ fn stop(rec: Record, number: u64, x: Parse, place: usize, out: &mut [u8], at: us
                 return rest;
             }
             let end = lay(out, at, number, kind as u64, refusal, 0);
-            let over = Session {
-                rec: rec,
-                number: number,
-                phase: Phase::Over,
-            };
-            Run {
-                session: over,
-                place: place,
-                wrote: end,
-                full: false,
-            }
+            ran(settings, slots, number, Phase::Over, place, end, false)
         }
     }
 }
@@ -106,20 +123,8 @@ pub fn run(rec: Record, number: u64, s: &[u8], place: usize, out: &mut [u8]) -> 
     while i < most {
         let x = eventfile::record_at(s, p);
         match x {
-            Parse::End => {
-                let left = Record {
-                    settings: settings,
-                    slots: slots,
-                };
-                return stop(left, n, x, p, out, at);
-            }
-            Parse::Refused(why, kind) => {
-                let left = Record {
-                    settings: settings,
-                    slots: slots,
-                };
-                return stop(left, n, x, p, out, at);
-            }
+            Parse::End => return stop(settings, slots, n, x, p, out, at),
+            Parse::Refused(why, kind) => return stop(settings, slots, n, x, p, out, at),
             Parse::Event(e, next) => {
                 let line = n;
                 n = std::num::wrapping_add_u64(n, 1);
@@ -139,19 +144,5 @@ pub fn run(rec: Record, number: u64, s: &[u8], place: usize, out: &mut [u8]) -> 
             }
         }
     }
-    let left = Record {
-        settings: settings,
-        slots: slots,
-    };
-    let session = Session {
-        rec: left,
-        number: n,
-        phase: Phase::Running,
-    };
-    Run {
-        session: session,
-        place: p,
-        wrote: at,
-        full: true,
-    }
+    ran(settings, slots, n, Phase::Running, p, at, true)
 }

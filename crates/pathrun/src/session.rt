@@ -2,7 +2,7 @@
 ghost use mathlib.Core.Path.{_≡_};
 ghost use Rattle.lines.specs.Text.{written};
 ghost use Rattle.octets.specs.Octets.{over};
-ghost use Rattle.pathrun.specs.Sessions.{begun, linesIn, ranOf, lastOf};
+ghost use Rattle.pathrun.specs.Sessions.{begun, stayed, linesIn, ranOf, lastOf};
 use crate::run::run;
 use crate::types::*;
 use base::types::Refusal;
@@ -30,31 +30,33 @@ pub fn begin() -> Session
     }
 }
 
+// A call that reads and writes nothing.
+fn stay(session: Session, full: bool) -> Run
+    ensures { λ r. ⌜ r ≡ stayed session full ⌝ }
+{
+    Run {
+        session: session,
+        place: 0,
+        wrote: 0,
+        full: full,
+    }
+}
+
 // One call on the bytes held: the settings, once they are there, then every record that lies whole within the bytes,
 // with at most a line for each 84 bytes of `out`.
 pub fn step(session: Session, s: &[u8], out: &mut [u8]) -> Run
     ensures { λ r. ⌜ (r ≡ ranOf (linesIn (now (out .entry))) session (now (s .entry)) .run) × (now (out .exit) ≡ over (ranOf (linesIn (now (out .entry))) session (now (s .entry)) .text) (now (out .entry))) ⌝ }
 {
+    if out.len() < 84 {
+        return stay(session, true);
+    }
     let rec = session.rec;
     let number = session.number;
     let phase = session.phase;
-    if out.len() < 84 {
-        return Run {
-            session: session,
-            place: 0,
-            wrote: 0,
-            full: true,
-        };
-    }
     match phase {
         Phase::Settings => {
             if s.len() < 32 {
-                return Run {
-                    session: session,
-                    place: 0,
-                    wrote: 0,
-                    full: false,
-                };
+                return stay(session, false);
             }
             let made = peer::record::new(eventfile::settings_from(s));
             let fresh = made.next;
@@ -76,12 +78,7 @@ pub fn step(session: Session, s: &[u8], out: &mut [u8]) -> Run
             }
         }
         Phase::Running => run(rec, number, s, 0, out),
-        Phase::Over => Run {
-            session: session,
-            place: 0,
-            wrote: 0,
-            full: false,
-        },
+        Phase::Over => stay(session, false),
     }
 }
 

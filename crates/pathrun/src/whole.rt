@@ -2,9 +2,11 @@
 ghost use mathlib.Core.Path.{_≡_};
 ghost use Rattle.octets.specs.Octets.{over};
 ghost use Rattle.pathrun.specs.Whole.{fileText, fileReply, FileDemand};
-use base::types::Refusal;
-use crate::session::{begin, finish, step};
+use crate::session::begin;
+use crate::session::finish;
+use crate::session::step;
 use crate::types::*;
+use base::types::Refusal;
 use live::types::Liveness;
 use rules::types::*;
 

@@ -1,9 +1,8 @@
 -- `pathrun::run::lay` meets its contract.
 -- Assumes nothing.
 use borrow.Author.Needs.{needs}
-use native.Mathlib.Omega.{arith}
 use Rattle.lines.specs.Text.{lineOf}
-use Rattle.pathrun.proofs.LayLaws.{written-few, lay-past, lay-tail}
+use Rattle.pathrun.proofs.LayLaws.{lay-past, lay-tail}
 use Rattle.pathrun.proofs.run.lay.Statement.{statement}
 use Rattle.pathrun.proofs.run.lay.Tie as tie
 

@@ -1,9 +1,9 @@
 -- `pathrun::run::run` meets its contract.
 -- Assumes nothing.
 use borrow.Author.Needs.{needs}
-use native.Mathlib.Omega.{arith}
 use Prim.Native.Nat.{_-_}
 use mathlib.Core.Path.{refl, sym, ap, _∙_}
+use native.Mathlib.Omega.{arith}
 use lib.ListN.{length-map}
 use Rattle.octets.proofs.Fill.{filled-length}
 use Rattle.pathrun.proofs.SessionLaws.{isEvent}
@@ -12,7 +12,8 @@ use Rattle.pathrun.proofs.run.run.Statement.{statement}
 use Rattle.pathrun.proofs.run.run.Tie as tie
 
 abbrev Inv-loop : tie.InvT-loop
-Inv-loop number s place out₀ most settings slots₀ n₀ p₀ at₀ i₀ out slots n p at i = Going out₀ s (record { settings = settings; slots = slots₀ }) n₀ p₀ most out (record { settings = settings; slots = slots }) n p at i
+Inv-loop number s place out₀ most settings slots₀ n₀ p₀ at₀ i₀ out slots n p at i =
+    Going out₀ s (record { settings = settings; slots = slots₀ }) n₀ p₀ most out (record { settings = settings; slots = slots }) n p at i
 
 abbrev μ-loop : tie.MeasureT-loop
 μ-loop number s place out₀ most settings slots₀ n₀ p₀ at₀ i₀ out slots n p at i = most - i
@@ -95,11 +96,14 @@ loop-less-2 c = omega (arith, c .before .before .before .before .before .before 
 loop-again-2 : tie.Need-loop-again-2 Inv-loop μ-loop
 loop-again-2 c = going-slot (c .before .before .before .before .before .before .before .before .before .before .before .before .before .before .before .before .before .loop .inv) _ (c .before .before .before .before .before .before .before .before .before .before .before .before .before .before .before .before .loop-test .taken) (c .before .before .before .before .before .before .before .before .before .before .before .before .before .before .before .record-at .ensures) (c .before .before .before .before .before .before .before .before .before .before .before .before .before .x2 .given .1) (c .before .before .before .before .before .before .before .before .if1 .left) (c .before .before .before .before .before .on-slot .ensures) (c .before .before .lay-event2 .ensures) (c .before .before .before .before .before .before .before .before .before .before .before .wrapping-add-u64 .ensures)
 
+ran-requires : tie.Need-ran-requires Inv-loop μ-loop
+ran-requires c κs = search needs
+
 same-length-3 : tie.Need-same-length-3 Inv-loop μ-loop
-same-length-3 c = filled-length (c .before .loop .inv .filled)
+same-length-3 c = filled-length (c .before .before .loop .inv .filled)
 
 returns-3 : tie.Need-returns-3 Inv-loop μ-loop
-returns-3 c = going-full (c .before .loop .inv) (c .loop-test .left)
+returns-3 c = going-full (c .before .before .loop .inv) (c .before .loop-test .left) (c .ran .ensures)
 
 pub run-spec : {M : Type 1} → statement M
 run-spec =
@@ -133,5 +137,6 @@ run-spec =
     lay-event-requires-2
     loop-less-2
     loop-again-2
+    ran-requires
     same-length-3
     returns-3)
