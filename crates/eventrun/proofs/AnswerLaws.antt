@@ -10,7 +10,7 @@ use Rattle.octets.specs.Octets.{le, flat, wordsOf, over}
 use Rattle.octets.proofs.Fill.{Filled, nothing, fill, filled-over, filled-length, flat-length, le-length}
 use Rattle.base.specs.declared.types.Refusal.{Refusal}
 use Rattle.rules.specs.Event.{numberOf, valueOf}
-use Rattle.rules.specs.Step.{Entry, step, trace}
+use Rattle.rules.specs.Step.{step, trace}
 use Rattle.rules.specs.declared.types.Event.{Event}
 use Rattle.rules.specs.declared.types.Record.{Record}
 use Rattle.rules.specs.declared.types.Stepped.{Stepped}

@@ -22,9 +22,7 @@ use Rattle.rules.specs.declared.types.Stepped.{Stepped}
 use Rattle.rules.specs.declared.types.Reply.the-variants as reply
 use Rattle.rules.specs.declared.types.Event.{Event}
 use Rattle.rules.specs.declared.types.Record.{Record}
-use Rattle.rules.specs.declared.types.Slot.{Slot}
 use Rattle.standing.specs.Standing.{fit}
-use Rattle.standing.specs.declared.types.Written.{Written}
 use Rattle.standing.specs.declared.types.Written.the-variants as written
 use Rattle.eventfile.specs.File.{settingsOf, eventsOf, endOf}
 use Rattle.eventrun.specs.Runs.{entryBytes, standingsOf, outputOf, verdictOf, endedBy, ranOf, outBy, outOf}
