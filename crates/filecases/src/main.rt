@@ -5,7 +5,8 @@
 //
 // What the lines of a file are stands in the contract of `pathrun::whole::lines_of_file`. Left here, and stated by no
 // contract: that the bytes of standard input are read in their order, and that these numbers are printed.
-use libc::{STDIN_FILENO, STDOUT_FILENO};
+use libc::STDIN_FILENO;
+use libc::STDOUT_FILENO;
 use pathrun::types::Written;
 
 // So many bytes, the end of the input, or what cannot be read.
@@ -16,7 +17,7 @@ enum Part {
 }
 
 // Reads a length and so many bytes to the front of `buf`.
-fn part(buf: &mut [u8]) -> Part {
+fn next_part(buf: &mut [u8]) -> Part {
     let mut word = [0u8; 4];
     let got = io::read_full(STDIN_FILENO, &mut word);
     if got == 0 {
@@ -33,11 +34,11 @@ fn part(buf: &mut [u8]) -> Part {
 }
 
 fn file_part(buf: &mut [u8; 2304]) -> Part {
-    part(buf)
+    next_part(buf)
 }
 
 fn lines_part(buf: &mut [u8; 65536]) -> Part {
-    part(buf)
+    next_part(buf)
 }
 
 // Whether the first n bytes of `out` are these lines.
@@ -63,7 +64,13 @@ fn agrees_part(file: &[u8], n: usize, lines: &[u8], m: usize, out: &mut [u8]) ->
     }
 }
 
-fn agrees(file: &[u8; 2304], n: usize, lines: &[u8; 65536], m: usize, out: &mut [u8; 65536]) -> bool {
+fn agrees(
+    file: &[u8; 2304],
+    n: usize,
+    lines: &[u8; 65536],
+    m: usize,
+    out: &mut [u8; 65536],
+) -> bool {
     agrees_part(file, n, lines, m, out)
 }
 

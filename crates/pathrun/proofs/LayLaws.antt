@@ -48,10 +48,12 @@ pub lay-tail : {at r : ℕ} {m : List ℕ} (b l : List ℕ) → at ≤ length l 
     → m ≡ over b (midOf at (length l - at) l)
     → (at + r ≡ at + written b (drop at l)) × (putMid at (length l - at) l m ≡ laidAt at b l)
 lay-tail {at} {r} {m} b l h e q =
-    let mid : midOf at (length l - at) l ≡ drop at l = take-all (length l - at) (drop at l) (le-of-eq (length-drop at l)) in
+    let mid : midOf at (length l - at) l ≡ drop at l = take-all (length l - at) (drop at l) (le-of-eq
+    (length-drop at l)) in
     let post : postOf at (length l - at) l ≡ [] = drop-of-length-le (drop at l) (le-of-eq (length-drop at l)) in (
       (λ j. at + (e ∙ ap (written b) mid) j),
-      (λ j. take at l ++ ((q ∙ ap (over b) mid) j ++ post j)) ∙ ap (λ (z : List ℕ). take at l ++ z) (append-nil (over b (drop at l))),
+      (λ j. take at l ++ ((q ∙ ap (over b) mid) j ++ post j))
+          ∙ ap (λ (z : List ℕ). take at l ++ z) (append-nil (over b (drop at l))),
     )
 
 -- a line that has room stands behind the bytes before it
@@ -67,6 +69,7 @@ lay-filled {l₀} {p} {l} {l′} {at} {r} b f h e q =
       long = length-append p b ∙ omega (arith, n, f .long);
       room = omega (arith, n);
       is = q ∙ (λ j. front j ++ over b (rest j))
-          ∙ ap (λ (z : List ℕ). p ++ z) (over-fits b (drop at l₀) fits ∙ ap (λ (z : List ℕ). b ++ z) (drop-drop (length b) at l₀))
+          ∙ ap (λ (z : List ℕ). p ++ z) (over-fits b (drop at l₀) fits
+          ∙ ap (λ (z : List ℕ). b ++ z) (drop-drop (length b) at l₀))
           ∙ sym (append-assoc p b (drop (at + length b) l₀)) ∙ (λ j. (p ++ b) ++ drop (sym n j) l₀);
     }

@@ -12,7 +12,8 @@ use Rattle.pathrun.specs.Portions.{Fed, behind, leftBy, calls, fed, join
 use Rattle.pathrun.specs.declared.types.Session.{Session}
 use Rattle.pathrun.proofs.SessionLaws.{owed, told, lines-short}
 
--- what calls wrote, and then what is owed for the bytes held and any after them, is what was owed; nothing whole is left
+-- what calls wrote, and then what is owed for the bytes held and any after them, is what was owed; nothing whole is
+-- left
 pub record Done (s : Session) (l : List ℕ) (d : Fed) : Type 0 where
   pub same : (t : List ℕ) → owed s (l ++ t) ≡ d .text ++ owed (d .session) (d .held ++ t)
   pub rests : lastOf (d .session) (d .held) ≡ owed (d .session) (d .held)
@@ -23,7 +24,8 @@ module _ (k : ℕ) (room : 1 ≤ k) where
   done-one s l e = record { same = λ t. told k s l t room .same; rests = told k s l [] room .rests e }
 
   -- further calls after one that did
-  done-more : (s : Session) (l : List ℕ) (d : Fed) → Done (ranOf k s l .run .session) (drop (ranOf k s l .run .place) l) d
+  done-more : (s : Session) (l : List ℕ) (d : Fed) → Done (ranOf k s l .run .session) (drop
+      (ranOf k s l .run .place) l) d
       → Done s l (behind (ranOf k s l .text) d)
   done-more s l d g =
       let r = ranOf k s l in
@@ -55,7 +57,8 @@ module _ (k : ℕ) (room : 1 ≤ k) where
       (done f (r .run .session) rest (omega (arith, g, w, length-drop (r .run .place) l)))))
       (λ e. subst P (sym e) (done-one s l e))
 
-  fed-is : (ps : List (List ℕ)) (s : Session) (held : List ℕ) → lastOf s held ≡ owed s held → fed k s held ps ≡ owed s (held ++ joined ps)
+  fed-is : (ps : List (List ℕ)) (s : Session) (held : List ℕ) → lastOf s held ≡ owed s held → fed k s held ps
+      ≡ owed s (held ++ joined ps)
   unfolding fed
   fed-is [] s held e = e ∙ ap (owed s) (sym (append-nil held))
   fed-is (p ∷ ps) s held e =

@@ -21,7 +21,8 @@ use Rattle.eventfile.specs.declared.types.Parse.{Parse}
 use Rattle.eventfile.specs.declared.types.Parse.the-variants as parse
 use Rattle.lines.specs.Text.{lineOf}
 use Rattle.pathrun.specs.Lines.{numberAfter, linesFrom, linesOf}
-use Rattle.pathrun.specs.Sessions.{sessionOf, overOf, Ran, halted, eventLine, stopLine, stopPhase, stopped, ranBy, ranFrom, ranSettings, ranIn, ranOf, lastBy, lastOf}
+use Rattle.pathrun.specs.Sessions.{sessionOf, overOf, Ran, halted, eventLine, stopLine, stopPhase}
+use Rattle.pathrun.specs.Sessions.{stopped, ranBy, ranFrom, ranSettings, ranIn, ranOf, lastBy, lastOf}
 use Rattle.pathrun.specs.declared.types.Phase.{Phase}
 use Rattle.pathrun.specs.declared.types.Phase.the-variants as phase
 use Rattle.pathrun.specs.declared.types.Session.{Session}
@@ -42,7 +43,8 @@ owed s l = owedIn (s .phase) s l
 pub record Told (l t whole : List ℕ) (at : ℕ) (r : Ran) : Type 0 where
   pub same : whole ≡ r .text ++ owed (r .run .session) (drop (r .run .place) l ++ t)
   pub within : r .run .place ≤ length l
-  pub rests : r .run .full ≡ false → lastOf (r .run .session) (drop (r .run .place) l) ≡ owed (r .run .session) (drop (r .run .place) l)
+  pub rests : r .run .full ≡ false → lastOf (r .run .session) (drop (r .run .place) l)
+      ≡ owed (r .run .session) (drop (r .run .place) l)
   pub gone : r .run .full ≡ true → at ≤ r .run .place
   pub count : r .run .wrote ≡ length (r .text)
 
@@ -77,7 +79,8 @@ isEvent (parse.Event e next) = true
 isEvent (parse.Refused why k) = false
 
 -- where it is none, what is owed is the last line
-last-by : (x : Parse) (rec : Record) (n : ℕ) (more : Record → ℕ → ℕ → List ℕ) → isEvent x ≡ false → lastBy x n ≡ walkBy x more rec n
+last-by : (x : Parse) (rec : Record) (n : ℕ) (more : Record → ℕ → ℕ → List ℕ) → isEvent x ≡ false → lastBy x n
+    ≡ walkBy x more rec n
 last-by parse.End rec n more h = refl
 last-by (parse.Refused why k) rec n more h = refl
 last-by (parse.Event e next) rec n more h = never refl h
@@ -93,18 +96,33 @@ unfolding owed lastOf
 last-is l rec n at h =
     let z : at + 0 ≡ at = omega arith in
     let e : isEvent (parseOf (drop at l) 0) ≡ false =
-    sym (event-from at (parseOf (drop at l) 0)) ∙ sym (ap isEvent (parse-shift l at 0)) ∙ (λ j. isEvent (parseOf l (z j))) ∙ h in
+    sym (event-from at (parseOf (drop at l) 0)) ∙ sym (ap isEvent (parse-shift l at 0))
+    ∙ (λ j. isEvent (parseOf l (z j))) ∙ h in
     last-by (parseOf (drop at l) 0) rec n (walkAll (drop at l)) e ∙ sym (walk-open (drop at l) rec n 0)
 
 still : (l t text : List ℕ) (rec : Record) (n at low : ℕ) → at ≤ length l → isEvent (parseOf l at) ≡ false
     → Told l t (text ++ walkAll (l ++ t) rec n at) low (halted text (sessionOf phase.Running rec n) at false)
 still l t text rec n at low h e =
-    record { same = stops l t text rec n at h; within = h; rests = λ q. last-is l rec n at e; gone = λ q. never q refl; count = refl }
+    record {
+      same = stops l t text rec n at h;
+      within = h;
+      rests = λ q. last-is l rec n at e;
+      gone = λ q. never q
+          refl;
+      count = refl;
+    }
 
 -- a lower bound below
 told-low : {l t whole : List ℕ} {a b : ℕ} {r : Ran} → b ≤ a → Told l t whole a r → Told l t whole b r
 told-low {l} {t} {whole} {a} {b} {r} h d =
-    record { same = d .same; within = d .within; rests = d .rests; gone = λ q. omega (arith, d .gone q); count = d .count }
+    record {
+      same = d .same;
+      within = d .within;
+      rests = d .rests;
+      gone = λ q. omega
+          (arith, d .gone q);
+      count = d .count;
+    }
 
 -- a run that stops before what is no event and not over
 rest-at : (x : Parse) (f : ℕ) (l t text : List ℕ) (rec : Record) (n at : ℕ) → at ≤ length l → parseOf l at ≡ x
@@ -118,7 +136,8 @@ rest-at x f l t text rec n at h e v a b =
 
 -- one record and, by the law for f, those after it
 turn : (x : Parse) (f : ℕ) (l t text : List ℕ) (rec : Record) (n at : ℕ) → at ≤ length l → parseOf l at ≡ x
-    → ((c : List ℕ) (r : Record) (m p : ℕ) → p ≤ length l → Told l t (c ++ walkAll (l ++ t) r m p) (p + 3 * f) (ranFrom f l c r m p))
+    → ((c : List ℕ) (r : Record) (m p : ℕ) → p ≤ length l → Told l t (c ++ walkAll (l ++ t) r m p) (p + 3 * f)
+    (ranFrom f l c r m p))
     → Told l t (text ++ walkAll (l ++ t) rec n at) (at + 3 * suc f) (ranBy x (ranFrom f l) text rec n at)
 turn parse.End f l t text rec n at h e ih = rest-at parse.End f l t text rec n at h e refl refl refl
 turn (parse.Refused why k) f l t text rec n at h e ih =
@@ -128,7 +147,8 @@ turn (parse.Refused why k) f l t text rec n at h e ih =
     rest-at (parse.Refused why k) f l t text rec n at h e refl (λ j. cond (c j) [] line)
     (λ j. cond (c j) phase.Running phase.Over))
     (λ c.
-    let p : parseOf (l ++ t) at ≡ parse.Refused why k = refused-stays l t at (λ z. never (eq-eqb (refusalNumber why) 13 z) c) e in
+    let p : parseOf (l ++ t) at ≡ parse.Refused why k = refused-stays l t at (λ z. never (eq-eqb
+    (refusalNumber why) 13 z) c) e in
     subst (λ (b : Bool). Told l t (text ++ walkAll (l ++ t) rec n at) (at + 3 * suc f)
     (halted (text ++ cond b [] line) (sessionOf (cond b phase.Running phase.Over) rec n) at false)) (sym c)
     (over-at l t text line rec n at (at + 3 * suc f) h
@@ -140,16 +160,25 @@ turn (parse.Event v next) f l t text rec n at h e ih =
     let rest = walkAll (l ++ t) (step rec v .next) (numberAfter n) next in
     let w : (text ++ line) ++ rest ≡ text ++ walkAll (l ++ t) rec n at =
     append-assoc text line rest
-    ∙ ap (λ (z : List ℕ). text ++ z) (sym (walk-open (l ++ t) rec n at ∙ (λ j. walkBy (p j) (walkAll (l ++ t)) rec n))) in
+    ∙ ap (λ (z : List ℕ). text ++ z) (sym (walk-open (l ++ t) rec n at
+    ∙ (λ j. walkBy (p j) (walkAll (l ++ t)) rec n))) in
     told-low (omega (arith, b .0))
-    (subst (λ (z : List ℕ). Told l t z (next + 3 * f) (ranFrom f l (text ++ line) (step rec v .next) (numberAfter n) next)) w
+    (subst (λ (z : List ℕ). Told l t z (next + 3 * f) (ranFrom f l (text ++ line) (step rec v .next)
+    (numberAfter n) next)) w
     (ih (text ++ line) (step rec v .next) (numberAfter n) next (b .1)))
 
 told-run : (f : ℕ) (l t text : List ℕ) (rec : Record) (n at : ℕ) → at ≤ length l
     → Told l t (text ++ walkAll (l ++ t) rec n at) (at + 3 * f) (ranFrom f l text rec n at)
 unfolding ranFrom
 told-run zero l t text rec n at h =
-    record { same = stops l t text rec n at h; within = h; rests = λ q. never refl q; gone = λ q. omega arith; count = refl }
+    record {
+      same = stops l t text rec n at h;
+      within = h;
+      rests = λ q. never refl q;
+      gone = λ q. omega arith;
+      count
+          = refl;
+    }
 told-run (suc f) l t text rec n at h = turn (parseOf l at) f l t text rec n at h refl (told-run f l t)
 
 -- ---- the settings
@@ -163,7 +192,8 @@ settings-more l t h =
     λ j. record { cap = a j; gap = b j; window = c j; horizon = d j }
 
 pub lines-long : (l t : List ℕ) → 32 ≤ length l
-    → linesOf (l ++ t) ≡ cond (allowed (settingsOf l)) (walkAll (l ++ t) (freshRecord (settingsOf l)) 1 32) (lineOf 0 0 6 0)
+    → linesOf (l ++ t) ≡ cond (allowed (settingsOf l)) (walkAll (l ++ t) (freshRecord (settingsOf l)) 1 32)
+    (lineOf 0 0 6 0)
 unfolding linesOf eventsOf endOf
 lines-long l t h =
     let w = l ++ t in
@@ -177,7 +207,8 @@ pub lines-short : (l : List ℕ) → length l < 32 → lineOf 0 0 13 0 ≡ lines
 unfolding linesOf
 lines-short l h =
     sym (λ j. cond (lt-ltb (length l) 32 h j) (lineOf 0 0 13 0)
-    (cond (allowed (settingsOf l)) (linesFrom 1 (trace (freshRecord (settingsOf l)) (eventsOf l)) (endOf l)) (lineOf 0 0 6 0)))
+    (cond (allowed (settingsOf l)) (linesFrom 1 (trace (freshRecord (settingsOf l)) (eventsOf l)) (endOf l))
+    (lineOf 0 0 6 0)))
 
 short : (k : ℕ) (rec : Record) (n : ℕ) (l t : List ℕ) → length l < 32
     → Told l t (linesOf (l ++ t)) (3 * k) (halted [] (sessionOf phase.Settings rec n) 0 false)
@@ -209,15 +240,23 @@ told-settings k rec n l t =
 
 -- ---- any session
 
-over-still : (k : ℕ) (rec : Record) (n : ℕ) (l t : List ℕ) → Told l t [] (3 * k) (halted [] (sessionOf phase.Over rec n) 0 false)
+over-still : (k : ℕ) (rec : Record) (n : ℕ) (l t : List ℕ) → Told l t [] (3 * k) (halted []
+    (sessionOf phase.Over rec n) 0 false)
 unfolding owed lastOf
-over-still k rec n l t = record { same = refl; within = omega arith; rests = λ q. refl; gone = λ q. never q refl; count = refl }
+over-still k rec n l t = record {
+  same = refl;
+  within = omega arith;
+  rests = λ q. refl;
+  gone = λ q. never q refl;
+  count = refl;
+}
 
 -- a call with room for a line
 pub told : (k : ℕ) (s : Session) (l t : List ℕ) → 1 ≤ k → Told l t (owed s (l ++ t)) (3 * k) (ranOf k s l)
 unfolding owed ranOf
 told k s l t h =
-    subst (λ (b : Bool). Told l t (owedIn (s .phase) s (l ++ t)) (3 * k) (cond b (halted [] s 0 true) (ranIn (s .phase) k s l)))
+    subst (λ (b : Bool). Told l t (owedIn (s .phase) s (l ++ t)) (3 * k) (cond b (halted [] s 0 true) (ranIn
+    (s .phase) k s l)))
     (sym (ne-eqb k 0 (λ e. omega (arith, e)))) (go (s .phase) (s .rec) (s .number))
   where
     go : (p : Phase) (rec : Record) (n : ℕ)

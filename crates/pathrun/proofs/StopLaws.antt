@@ -1,4 +1,5 @@
--- What the small functions of a run and of a session give: the line of an event, an answer that changes no slot, a stop,
+-- What the small functions of a run and of a session give: the line of an event, an answer that changes no slot, a
+-- stop,
 -- and the end of the input.
 -- Assumes nothing.
 use Prim.Native.Nat.{ℕ, _+_}
@@ -27,7 +28,8 @@ use Rattle.eventfile.specs.File.{parseOf}
 use Rattle.eventfile.specs.declared.types.Parse.{Parse}
 use Rattle.eventfile.specs.declared.types.Parse.the-variants as parse
 use Rattle.lines.specs.Text.{lineOf, written}
-use Rattle.pathrun.specs.Sessions.{noSettings, sessionOf, begun, stillOf, stopLine, stopPhase, ranAt, stoppedAt, laidAt, lastBy, lastIn, lastOf}
+use Rattle.pathrun.specs.Sessions.{noSettings, sessionOf, begun, stillOf, stopLine, stopPhase}
+use Rattle.pathrun.specs.Sessions.{ranAt, stoppedAt, laidAt, lastBy, lastIn, lastOf}
 use Rattle.pathrun.specs.declared.types.Phase.the-variants as phase
 use Rattle.pathrun.specs.declared.types.Session.{Session}
 use Rattle.pathrun.specs.declared.types.Run.{Run}
@@ -38,15 +40,20 @@ use Rattle.pathrun.specs.declared.types.Run.{Run}
 pub laid-as : (at n k : ℕ) {x y x′ y′ r : ℕ} (l : List ℕ) {m : List ℕ} → x ≡ x′ → y ≡ y′
     → (r ≡ at + written (lineOf n k x y) (drop at l)) × (m ≡ laidAt at (lineOf n k x y) l)
     → (r ≡ at + written (lineOf n k x′ y′) (drop at l)) × (m ≡ laidAt at (lineOf n k x′ y′) l)
-laid-as at n k l p q h =
-    (h .0 ∙ (λ j. at + written (lineOf n k (p j) (q j)) (drop at l)), h .1 ∙ (λ j. laidAt at (lineOf n k (p j) (q j)) l))
+laid-as at n k l p q h = (
+  h .0 ∙ (λ j. at + written (lineOf n k (p j) (q j)) (drop at l)),
+  h .1
+      ∙ (λ j. laidAt at (lineOf n k (p j) (q j)) l),
+)
 
-pub still-choose : (t : Settings) (slots : List Slot) (e : Event) {r : Reply} → e .kind ≡ 15 → r ≡ chosenOf slots (e .span)
+pub still-choose : (t : Settings) (slots : List Slot) (e : Event) {r : Reply} → e .kind ≡ 15 → r
+    ≡ chosenOf slots (e .span)
     → r ≡ stillOf t slots e
 still-choose t slots e k q =
     q ∙ sym (λ j. cond (eq-eqb (e .kind) 15 k j) (chosenOf slots (e .span)) (onSlot t emptySlot e .reply))
 
-pub still-out : (t : Settings) (slots : List Slot) (e : Event) {s : Slot} {u : Turn} → eqb (e .kind) 15 ≡ false → s ≡ emptySlot
+pub still-out : (t : Settings) (slots : List Slot) (e : Event) {s : Slot} {u : Turn} → eqb (e .kind) 15 ≡ false
+    → s ≡ emptySlot
     → u ≡ onSlot t s e → u .reply ≡ stillOf t slots e
 still-out t slots e {s} {u} k a q =
     (λ j. q j .reply) ∙ (λ j. onSlot t (a j) e .reply)
@@ -65,7 +72,8 @@ waits-end {x} e = record { line = λ n. ap (λ (z : Parse). stopLine z n) e; sta
 pub waits-event : {x : Parse} {v : Event} {next : ℕ} → x ≡ parse.Event v next → Waits x
 waits-event {x} {v} {next} e = record { line = λ n. ap (λ (z : Parse). stopLine z n) e; stays = ap stopPhase e }
 
-pub waits-cut : {x : Parse} {why : Refusal} {k r : ℕ} → x ≡ parse.Refused why k → r ≡ refusalNumber why → r ≡ 13 → Waits x
+pub waits-cut : {x : Parse} {why : Refusal} {k r : ℕ} → x ≡ parse.Refused why k → r ≡ refusalNumber why → r ≡ 13
+    → Waits x
 waits-cut {x} {why} {k} {r} e a b =
     let c : eqb (refusalNumber why) 13 ≡ true = eq-eqb (refusalNumber why) 13 (sym a ∙ b) in
     record {
@@ -88,7 +96,8 @@ stop-rest t slots n x p l at w q =
       sym (take-append-drop at l) ∙ (λ j. take at l ++ (z .1) j) ∙ (λ j. laidAt at (sym (w .line n) j) l),
     )
 
-pub stop-over : (t : Settings) (slots : List Slot) (n : ℕ) {x : Parse} {why : Refusal} {k r end : ℕ} (p : ℕ) (l : List ℕ) (at : ℕ)
+pub stop-over : (t : Settings) (slots : List Slot) (n : ℕ) {x : Parse} {why : Refusal} {k r end : ℕ} (p : ℕ)
+    (l : List ℕ) (at : ℕ)
     {m : List ℕ} {v : Run} → x ≡ parse.Refused why k → r ≡ refusalNumber why → eqb r 13 ≡ false
     → (end ≡ at + written (lineOf n k r 0) (drop at l)) × (m ≡ laidAt at (lineOf n k r 0) l)
     → v ≡ ranAt t slots n phase.Over p end false
@@ -96,7 +105,8 @@ pub stop-over : (t : Settings) (slots : List Slot) (n : ℕ) {x : Parse} {why : 
 stop-over t slots n {x} {why} {k} {r} {end} p l at {m} {v} e a b h q =
     let c : eqb (refusalNumber why) 13 ≡ false = (λ j. eqb (sym a j) 13) ∙ b in
     let line : lineOf n k r 0 ≡ stopLine x n =
-    (λ j. lineOf n k (a j) 0) ∙ sym (λ j. cond (c j) [] (lineOf n k (refusalNumber why) 0)) ∙ ap (λ (z : Parse). stopLine z n) (sym e) in
+    (λ j. lineOf n k (a j) 0) ∙ sym (λ j. cond (c j) [] (lineOf n k (refusalNumber why) 0))
+    ∙ ap (λ (z : Parse). stopLine z n) (sym e) in
     let over : phase.Over ≡ stopPhase x = sym (λ j. cond (c j) phase.Running phase.Over) ∙ ap stopPhase (sym e) in
     let w : end ≡ at + written (stopLine x n) (drop at l) = h .0 ∙ (λ j. at + written (line j) (drop at l)) in
     (q ∙ (λ j. ranAt t slots n (over j) p (w j) false), h .1 ∙ (λ j. laidAt at (line j) l))
@@ -121,14 +131,17 @@ pub last-by : (s : Session) (l : List ℕ) {x y : Parse} → s .phase ≡ phase.
 unfolding lastOf
 last-by s l e a b = (λ j. lastIn (e j) s l) ∙ (λ j. lastBy ((sym a ∙ b) j) (s .number))
 
-pub last-refused : (s : Session) (l : List ℕ) {x : Parse} {why : Refusal} {k r : ℕ} → s .phase ≡ phase.Running → x ≡ parseOf l 0
+pub last-refused : (s : Session) (l : List ℕ) {x : Parse} {why : Refusal} {k r : ℕ} → s .phase ≡ phase.Running
+    → x ≡ parseOf l 0
     → x ≡ parse.Refused why k → r ≡ refusalNumber why → lastOf s l ≡ lineOf (s .number) k r 0
 last-refused s l {x} {why} {k} {r} e a b q = last-by s l e a b ∙ (λ j. lineOf (s .number) k (sym q j) 0)
 
 -- written, or nothing
-pub finish-as : (s : Session) (l : List ℕ) {line : List ℕ} {r : ℕ} (o : List ℕ) {m : List ℕ} → lastOf s l ≡ line → r ≡ written line o
+pub finish-as : (s : Session) (l : List ℕ) {line : List ℕ} {r : ℕ} (o : List ℕ) {m : List ℕ} → lastOf s l ≡ line
+    → r ≡ written line o
     → m ≡ over line o → (r ≡ written (lastOf s l) o) × (m ≡ over (lastOf s l) o)
 finish-as s l o e a b = (a ∙ (λ j. written (sym e j) o), b ∙ (λ j. over (sym e j) o))
 
-pub finish-none : (s : Session) (l o : List ℕ) → lastOf s l ≡ [] → (0 ≡ written (lastOf s l) o) × (o ≡ over (lastOf s l) o)
+pub finish-none : (s : Session) (l o : List ℕ) → lastOf s l ≡ [] → (0 ≡ written (lastOf s l) o) × (o
+    ≡ over (lastOf s l) o)
 finish-none s l o e = finish-as s l o e (none-laid o .0) (none-laid o .1)

@@ -21,7 +21,8 @@ use Rattle.eventfile.proofs.ReadLaws.{parse-end, parse-stands, parse-shift, Sta
 abbrev pub walkBy : Parse → (Record → ℕ → ℕ → List ℕ) → Record → ℕ → List ℕ
 walkBy parse.End more rec n = []
 walkBy (parse.Refused why k) more rec n = lineOf n k (refusalNumber why) 0
-walkBy (parse.Event e next) more rec n = eventLine n e (step rec e .reply) ++ more (step rec e .next) (numberAfter n) next
+walkBy (parse.Event e next) more rec n = eventLine n e (step rec e .reply) ++ more (step rec e .next)
+    (numberAfter n) next
 
 -- the lines of at most f records, from a place on
 unfoldable pub walk : ℕ → List ℕ → Record → ℕ → ℕ → List ℕ
@@ -60,12 +61,14 @@ more-by (parse.Event v next) f l rec n at e h ih =
     ap (λ (z : List ℕ). eventLine n v (step rec v .reply) ++ z)
     (ih (step rec v .next) (numberAfter n) next (omega (arith, b .0, h)))
 
-pub walk-more : (f : ℕ) (l : List ℕ) (rec : Record) (n at : ℕ) → length l ≤ at + f → walk (suc f) l rec n at ≡ walk f l rec n at
+pub walk-more : (f : ℕ) (l : List ℕ) (rec : Record) (n at : ℕ) → length l ≤ at + f → walk (suc f) l rec n at
+    ≡ walk f l rec n at
 unfolding walk
 walk-more zero l rec n at h = walk-none 1 l rec n at (omega arith)
 walk-more (suc f) l rec n at h = more-by (parseOf l at) f l rec n at refl h (walk-more f l)
 
-pub walk-enough : (g f : ℕ) (l : List ℕ) (rec : Record) (n at : ℕ) → length l ≤ at + f → walk (g + f) l rec n at ≡ walk f l rec n at
+pub walk-enough : (g f : ℕ) (l : List ℕ) (rec : Record) (n at : ℕ) → length l ≤ at + f → walk (g + f) l rec n at
+    ≡ walk f l rec n at
 walk-enough zero f l rec n at h = let z : zero + f ≡ f = omega arith in λ j. walk (z j) l rec n at
 walk-enough (suc g) f l rec n at h =
     let z : suc g + f ≡ suc (g + f) = omega arith in
@@ -106,7 +109,8 @@ unfolding walk
 walk-open l rec n at = sym (walk-more (length l) l rec n at (omega arith))
 
 -- from a place on, or by the bytes from there on
-pub walk-drop : (p : ℕ) (l : List ℕ) → p ≤ length l → (rec : Record) (n : ℕ) → walkAll l rec n p ≡ walkAll (drop p l) rec n 0
+pub walk-drop : (p : ℕ) (l : List ℕ) → p ≤ length l → (rec : Record) (n : ℕ) → walkAll l rec n p
+    ≡ walkAll (drop p l) rec n 0
 walk-drop p l h rec n =
     let z : p ≡ p + 0 = omega arith in
     (λ j. walk (length l) l rec n (z j)) ∙ walk-shift p (length l) l rec n 0

@@ -64,7 +64,8 @@ lines-few l =
     on-order (length l) 32
     (λ h. omega (arith, ap (λ (z : List ℕ). length z) (lines-short l h), line-few 0 0 13 0))
     (λ h.
-    let e : linesOf l ≡ cond (allowed (settingsOf l)) (walkAll (l ++ []) (freshRecord (settingsOf l)) 1 32) (lineOf 0 0 6 0) =
+    let e : linesOf l ≡ cond (allowed (settingsOf l)) (walkAll (l ++ []) (freshRecord (settingsOf l)) 1 32)
+    (lineOf 0 0 6 0) =
     ap linesOf (sym (append-nil l)) ∙ lines-long l [] h in
     let n : length (l ++ []) ≡ length l = ap (λ (z : List ℕ). length z) (append-nil l) in
     let w = walk-few (length (l ++ [])) (l ++ []) (freshRecord (settingsOf l)) 1 32 in
@@ -111,7 +112,8 @@ module _ {l o : List ℕ} {s : Session} {r : Run} {m : List ℕ} (e : Ends l o s
   counts = (λ j. is-run j .wrote) ∙ told (length o / 84) begun l [] (omega (arith, e .room)) .count
 
   both : length (ranOf (length o / 84) begun l .text)
-      + length (lastOf (ranOf (length o / 84) begun l .run .session) (drop (ranOf (length o / 84) begun l .run .place) l))
+      + length (lastOf (ranOf (length o / 84) begun l .run .session) (drop (ranOf
+      (length o / 84) begun l .run .place) l))
       ≡ length (linesOf l)
   both =
       sym (length-append (ranOf (length o / 84) begun l .text)
@@ -141,8 +143,10 @@ module _ {l o : List ℕ} {s : Session} {r : Run} {m : List ℕ} (e : Ends l o s
   wrote-in = omega (arith, after-call .room, filled-length after-call)
 
   module _ {k : ℕ} {m′ : List ℕ}
-      (f : (k ≡ written (lastOf (r .session) (midOf (r .place) (length l - r .place) l)) (midOf (r .wrote) (length m - r .wrote) m))
-      × (m′ ≡ over (lastOf (r .session) (midOf (r .place) (length l - r .place) l)) (midOf (r .wrote) (length m - r .wrote) m))) where
+      (f : (k ≡ written (lastOf (r .session) (midOf (r .place) (length l - r .place) l)) (midOf (r .wrote)
+      (length m - r .wrote) m))
+      × (m′ ≡ over (lastOf (r .session) (midOf (r .place) (length l - r .place) l)) (midOf (r .wrote)
+      (length m - r .wrote) m))) where
     line-is : lastOf (r .session) (midOf (r .place) (length l - r .place) l)
         ≡ lastOf (ranOf (length o / 84) begun l .run .session) (drop (ranOf (length o / 84) begun l .run .place) l)
     line-is =
@@ -155,7 +159,8 @@ module _ {l o : List ℕ} {s : Session} {r : Run} {m : List ℕ} (e : Ends l o s
         let b = lastOf (r .session) (midOf (r .place) (length l - r .place) l) in
         let t = ranOf (length o / 84) begun l .text in
         let y = lay-tail b m wrote-in (f .0) (f .1) in
-        let n : length b ≡ length (lastOf (ranOf (length o / 84) begun l .run .session) (drop (ranOf (length o / 84) begun l .run .place) l)) =
+        let n : length b ≡ length (lastOf (ranOf (length o / 84) begun l .run .session) (drop (ranOf
+        (length o / 84) begun l .run .place) l)) =
         ap (λ (z : List ℕ). length z) line-is in
         let g = lay-filled b after-call (omega (arith, n, both, fits, counts)) (y .0) (y .1) in
         subst (λ (z : List ℕ). Filled o z (putMid (r .wrote) (length m - r .wrote) m m′) (r .wrote + k))

@@ -1,4 +1,4 @@
--- "wherever the portions are cut": portions of any lengths, fed to a session one after the other, give the lines of all.
+-- Portions of any lengths, fed to a session one after the other, give the lines of all bytes, wherever they are cut.
 use Prim.Native.Nat.{ℕ, zero, suc, _≤_}
 use mathlib.Core.Bool.{cond}
 use mathlib.Core.List.{List, [], _∷_, _++_}

@@ -27,4 +27,5 @@ fileReply l out = cond (hasRoom l out) (written.Bytes (length (linesOf l))) (wri
 
 -- `linesOf` has the lines of `trace` from a fresh record with these settings, over these events: demand 3 holds of them
 abbrev pub FileDemand : List ℕ → Type 0
-FileDemand l = allowed (settingsOf l) ≡ true → FewDraws (settingsOf l) (eventsOf l) → Demand3 (settingsOf l) (eventsOf l)
+FileDemand l =
+    allowed (settingsOf l) ≡ true → FewDraws (settingsOf l) (eventsOf l) → Demand3 (settingsOf l) (eventsOf l)

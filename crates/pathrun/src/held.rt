@@ -6,7 +6,8 @@ ghost use Rattle.pathrun.specs.Sessions.{partOf};
 
 // Moves the bytes from `from` on and before `to` to the front of `buf`; gives how many there are.
 pub fn shift(buf: &mut [u8], from: usize, to: usize) -> usize
-    ensures { λ r. ⌜ (r ≡ length (partOf from to (now (buf .entry)))) × (now (buf .exit) ≡ over (partOf from to (now (buf .entry))) (now (buf .entry))) ⌝ }
+    ensures { λ r. ⌜ (r ≡ length (partOf from to (now (buf .entry))))
+        × (now (buf .exit) ≡ over (partOf from to (now (buf .entry))) (now (buf .entry))) ⌝ }
 {
     let mut i: usize = 0;
     let mut j = from;

@@ -5,7 +5,8 @@ ghost use Prim.Native.Nat.{_+_};
 ghost use lib.ListN.{drop};
 ghost use Rattle.lines.specs.Text.{lineOf, written};
 ghost use Rattle.octets.specs.Octets.{over};
-ghost use Rattle.pathrun.specs.Sessions.{eventLine, stillOf, laidAt, stopLine, stoppedAt, linesIn, ranAt, ranFrom};
+ghost use Rattle.pathrun.specs.Sessions.{eventLine, stillOf, laidAt, stopLine, stoppedAt};
+ghost use Rattle.pathrun.specs.Sessions.{linesIn, ranAt, ranFrom};
 use crate::types::*;
 use base::types::Refusal;
 use eventfile::types::Parse;
@@ -18,7 +19,8 @@ use turns::slot::on_slot;
 
 // Writes a line behind the first `at` bytes of `out`, or nothing where it does not fit; gives the place after it.
 fn lay(out: &mut [u8], at: usize, number: u64, kind: u64, refusal: u64, value: u64) -> usize
-    ensures { λ r. ⌜ (r ≡ at + written (lineOf number kind refusal value) (drop at (now (out .entry)))) × (now (out .exit) ≡ laidAt at (lineOf number kind refusal value) (now (out .entry))) ⌝ }
+    ensures { λ r. ⌜ (r ≡ at + written (lineOf number kind refusal value) (drop at (now (out .entry))))
+        × (now (out .exit) ≡ laidAt at (lineOf number kind refusal value) (now (out .entry))) ⌝ }
 {
     if out.len() < at {
         return at;
@@ -28,7 +30,8 @@ fn lay(out: &mut [u8], at: usize, number: u64, kind: u64, refusal: u64, value: u
 
 // The same with the line of an event.
 fn lay_event(out: &mut [u8], at: usize, number: u64, e: Event, reply: Reply) -> usize
-    ensures { λ r. ⌜ (r ≡ at + written (eventLine number e reply) (drop at (now (out .entry)))) × (now (out .exit) ≡ laidAt at (eventLine number e reply) (now (out .entry))) ⌝ }
+    ensures { λ r. ⌜ (r ≡ at + written (eventLine number e reply) (drop at (now (out .entry))))
+        × (now (out .exit) ≡ laidAt at (eventLine number e reply) (now (out .entry))) ⌝ }
 {
     lay(
         out,
@@ -92,7 +95,8 @@ fn stop(
     out: &mut [u8],
     at: usize,
 ) -> Run
-    ensures { λ r. ⌜ (r ≡ stoppedAt settings slots number x place (now (out .entry)) at) × (now (out .exit) ≡ laidAt at (stopLine x number) (now (out .entry))) ⌝ }
+    ensures { λ r. ⌜ (r ≡ stoppedAt settings slots number x place (now (out .entry)) at)
+        × (now (out .exit) ≡ laidAt at (stopLine x number) (now (out .entry))) ⌝ }
 {
     let rest = ran(settings, slots, number, Phase::Running, place, at, false);
     match x {
@@ -111,7 +115,9 @@ fn stop(
 
 // The records from a place on, at most one for each 84 bytes of `out`. An event takes its slot out and puts it back.
 pub fn run(rec: Record, number: u64, s: &[u8], place: usize, out: &mut [u8]) -> Run
-    ensures { λ r. ⌜ (r ≡ ranFrom (linesIn (now (out .entry))) (now (s .entry)) [] rec number place .run) × (now (out .exit) ≡ over (ranFrom (linesIn (now (out .entry))) (now (s .entry)) [] rec number place .text) (now (out .entry))) ⌝ }
+    ensures { λ r. ⌜ (r ≡ ranFrom (linesIn (now (out .entry))) (now (s .entry)) [] rec number place .run)
+        × (now (out .exit) ≡ over
+        (ranFrom (linesIn (now (out .entry))) (now (s .entry)) [] rec number place .text) (now (out .entry))) ⌝ }
 {
     let most = out.len() / 84;
     let settings = rec.settings;

@@ -45,7 +45,9 @@ fn stay(session: Session, full: bool) -> Run
 // One call on the bytes held: the settings, once they are there, then every record that lies whole within the bytes,
 // with at most a line for each 84 bytes of `out`.
 pub fn step(session: Session, s: &[u8], out: &mut [u8]) -> Run
-    ensures { λ r. ⌜ (r ≡ ranOf (linesIn (now (out .entry))) session (now (s .entry)) .run) × (now (out .exit) ≡ over (ranOf (linesIn (now (out .entry))) session (now (s .entry)) .text) (now (out .entry))) ⌝ }
+    ensures { λ r. ⌜ (r ≡ ranOf (linesIn (now (out .entry))) session (now (s .entry)) .run)
+        × (now (out .exit) ≡ over
+        (ranOf (linesIn (now (out .entry))) session (now (s .entry)) .text) (now (out .entry))) ⌝ }
 {
     if out.len() < 84 {
         return stay(session, true);
@@ -84,7 +86,8 @@ pub fn step(session: Session, s: &[u8], out: &mut [u8]) -> Run
 
 // The end of the input, with these bytes left: writes the last line, if there is one; gives the bytes written.
 pub fn finish(session: Session, s: &[u8], out: &mut [u8]) -> usize
-    ensures { λ r. ⌜ (r ≡ written (lastOf session (now (s .entry))) (now (out .entry))) × (now (out .exit) ≡ over (lastOf session (now (s .entry))) (now (out .entry))) ⌝ }
+    ensures { λ r. ⌜ (r ≡ written (lastOf session (now (s .entry))) (now (out .entry)))
+        × (now (out .exit) ≡ over (lastOf session (now (s .entry))) (now (out .entry))) ⌝ }
 {
     let phase = session.phase;
     match phase {

@@ -13,7 +13,9 @@ use rules::types::*;
 // Writes the lines of a file to the front of `out`, or nothing where `out` has no room for a line of 84 bytes for each
 // three bytes of the file and one more; demand 3 holds of the file's events and these answers.
 pub fn lines_of_file(s: &[u8], out: &mut [u8]) -> Written
-    ensures { λ r. ⌜ (r ≡ fileReply (now (s .entry)) (now (out .entry))) × (now (out .exit) ≡ over (fileText (now (s .entry)) (now (out .entry))) (now (out .entry))) × FileDemand (now (s .entry)) ⌝ }
+    ensures { λ r. ⌜ (r ≡ fileReply (now (s .entry)) (now (out .entry)))
+        × (now (out .exit) ≡ over (fileText (now (s .entry)) (now (out .entry))) (now (out .entry)))
+        × FileDemand (now (s .entry)) ⌝ }
 {
     if out.len() / 84 <= s.len() / 3 {
         return Written::Refused(Refusal::Lent);

@@ -48,7 +48,8 @@ loop-less c = search needs
 
 -- src/held.rt:13:5
 loop-again : tie.Need-loop-again Inv-loop μ-loop
-loop-again c = moving-next (c .before .before .before .loop .inv) _ (c .before .before .loop-test .taken) (c .before .if1 .left)
+loop-again c = moving-next (c .before .before .before .loop .inv) _ (c .before .before .loop-test .taken)
+    (c .before .if1 .left)
 
 -- src/held.rt:8:1
 same-length-2 : tie.Need-same-length-2 Inv-loop μ-loop

@@ -41,7 +41,8 @@ returns-2 : tie.Need-returns-2
 returns-2 c =
     let a = c .before .before .before .before .before .before .args in
     let p = c .before .before .put-line .ensures in
-    lay-tail (lineOf (a .number) (a .kind) (a .refusal) (a .value)) _ (c .before .before .before .before .if1 .left) (p .0) (p .2)
+    lay-tail (lineOf (a .number) (a .kind) (a .refusal) (a .value)) _ (c .before .before .before .before .if1 .left)
+    (p .0) (p .2)
 
 pub lay-spec : {M : Type 1} → statement M
 lay-spec =

@@ -21,7 +21,9 @@ same-length : tie.Need-same-length
 same-length c = search needs
 
 returns : tie.Need-returns
-returns c = let a = c .before .before .before .before .before .before .before .before .args in laid-as (a .at) (a .number) (a .e .kind) _ (c .before .before .before .before .number-of .ensures) (c .before .before .before .value-of .ensures) (c .before .before .lay .ensures)
+returns c = let a = c .before .before .before .before .before .before .before .before .args in
+    laid-as (a .at) (a .number) (a .e .kind) _ (c .before .before .before .before .number-of .ensures)
+    (c .before .before .before .value-of .ensures) (c .before .before .lay .ensures)
 
 pub lay-event-spec : {M : Type 1} → statement M
 lay-event-spec =

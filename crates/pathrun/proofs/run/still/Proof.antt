@@ -10,7 +10,8 @@ chosen-requires : tie.Need-chosen-requires
 chosen-requires c κs = search needs
 
 returns : tie.Need-returns
-returns c = let a = c .before .before .before .args in still-choose (a .settings) _ (a .e) (c .before .if1 .taken) (c .chosen .ensures)
+returns c = let a = c .before .before .before .args in still-choose (a .settings) _ (a .e) (c .before .if1 .taken)
+    (c .chosen .ensures)
 
 empty-slot-requires : tie.Need-empty-slot-requires
 empty-slot-requires c κs = search needs
@@ -19,7 +20,9 @@ on-slot-requires : tie.Need-on-slot-requires
 on-slot-requires c κs = search needs
 
 returns-2 : tie.Need-returns-2
-returns-2 c = let a = c .before .before .before .before .args in still-out (a .settings) _ (a .e) (ne-eqb _ _ (c .before .before .if1 .left)) (c .before .empty-slot .ensures) (c .on-slot .ensures)
+returns-2 c = let a = c .before .before .before .before .args in
+    still-out (a .settings) _ (a .e) (ne-eqb _ _ (c .before .before .if1 .left)) (c .before .empty-slot .ensures)
+    (c .on-slot .ensures)
 
 pub still-spec : {M : Type 1} → statement M
 still-spec =

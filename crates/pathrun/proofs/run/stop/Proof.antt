@@ -22,7 +22,10 @@ number-requires : tie.Need-number-requires
 number-requires c κs = search needs
 
 returns : tie.Need-returns
-returns c = let a = c .before .before .before .before .before .before .before .args in stop-rest (a .settings) _ (a .number) (a .x) (a .place) _ (a .at) (waits-cut (c .before .before .before .x2 .given .1) (c .before .number .ensures) (c .if1 .taken)) (c .before .before .before .before .before .ran .ensures)
+returns c = let a = c .before .before .before .before .before .before .before .args in
+    stop-rest (a .settings) _ (a .number) (a .x) (a .place) _ (a .at) (waits-cut
+    (c .before .before .before .x2 .given .1) (c .before .number .ensures) (c .if1 .taken))
+    (c .before .before .before .before .before .ran .ensures)
 
 cast-lay : tie.Need-cast-lay
 cast-lay c = search needs
@@ -34,16 +37,24 @@ ran-requires-2 : tie.Need-ran-requires-2
 ran-requires-2 c κs = search needs
 
 returns-2 : tie.Need-returns-2
-returns-2 c = let a = c .before .before .before .before .args in stop-rest (a .settings) _ (a .number) (a .x) (a .place) _ (a .at) (waits-end (c .enum-told .given .1)) (c .before .before .ran .ensures)
+returns-2 c = let a = c .before .before .before .before .args in
+    stop-rest (a .settings) _ (a .number) (a .x) (a .place) _ (a .at) (waits-end (c .enum-told .given .1))
+    (c .before .before .ran .ensures)
 
 returns-3 : tie.Need-returns-3
-returns-3 c = let a = c .before .before .before .before .before .args in stop-rest (a .settings) _ (a .number) (a .x) (a .place) _ (a .at) (waits-event (c .before .x .given .1)) (c .before .before .before .ran .ensures)
+returns-3 c = let a = c .before .before .before .before .before .args in
+    stop-rest (a .settings) _ (a .number) (a .x) (a .place) _ (a .at) (waits-event (c .before .x .given .1))
+    (c .before .before .before .ran .ensures)
 
 same-length : tie.Need-same-length
 same-length c = search needs
 
 returns-4 : tie.Need-returns-4
-returns-4 c = let a = c .before .before .before .before .before .before .before .before .before .before .before .before .args in stop-over (a .settings) _ (a .number) (a .place) _ (a .at) (c .before .before .before .before .before .before .before .before .x2 .given .1) (c .before .before .before .before .before .before .number .ensures) (ne-eqb _ _ (c .before .before .before .before .before .if1 .left)) (c .before .before .before .lay .ensures) (c .ran2 .ensures)
+returns-4 c = let a = c .before .before .before .before .before .before .before .before .before .before .before
+    .before .args in stop-over (a .settings) _ (a .number) (a .place) _ (a .at)
+    (c .before .before .before .before .before .before .before .before .x2 .given .1)
+    (c .before .before .before .before .before .before .number .ensures) (ne-eqb _ _
+    (c .before .before .before .before .before .if1 .left)) (c .before .before .before .lay .ensures) (c .ran2 .ensures)
 
 pub stop-spec : {M : Type 1} → statement M
 stop-spec =

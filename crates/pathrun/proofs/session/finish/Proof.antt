@@ -42,22 +42,34 @@ same-length : tie.Need-same-length
 same-length c = search needs
 
 returns : tie.Need-returns
-returns c = let s = c .before .before .before .before .before .before .before .before .args .session in finish-as s _ _ (last-settings s _ (c .before .before .before .before .enum-told .given .1)) (c .before .before .put-line .ensures .0) (c .before .before .put-line .ensures .2)
+returns c = let s = c .before .before .before .before .before .before .before .before .args .session in
+    finish-as s _ _ (last-settings s _ (c .before .before .before .before .enum-told .given .1))
+    (c .before .before .put-line .ensures .0) (c .before .before .put-line .ensures .2)
 
 returns-2 : tie.Need-returns-2
-returns-2 c = let s = c .before .before .before .before .before .before .before .args .session in finish-none s _ _ (last-by s _ (c .before .before .before .enum-told2 .given .1) (c .before .before .record-at .ensures) (c .enum-told3 .given .1))
+returns-2 c = let s = c .before .before .before .before .before .before .before .args .session in
+    finish-none s _ _ (last-by s _ (c .before .before .before .enum-told2 .given .1)
+    (c .before .before .record-at .ensures) (c .enum-told3 .given .1))
 
 returns-3 : tie.Need-returns-3
-returns-3 c = let s = c .before .before .before .before .before .before .before .before .args .session in finish-none s _ _ (last-by s _ (c .before .before .before .before .enum-told2 .given .1) (c .before .before .before .record-at .ensures) (c .before .x .given .1))
+returns-3 c = let s = c .before .before .before .before .before .before .before .before .args .session in
+    finish-none s _ _ (last-by s _ (c .before .before .before .before .enum-told2 .given .1)
+    (c .before .before .before .record-at .ensures) (c .before .x .given .1))
 
 same-length-2 : tie.Need-same-length-2
 same-length-2 c = search needs
 
 returns-4 : tie.Need-returns-4
-returns-4 c = let s = c .before .before .before .before .before .before .before .before .before .before .before .before .before .args .session in finish-as s _ _ (last-refused s _ (c .before .before .before .before .before .before .before .before .before .enum-told2 .given .1) (c .before .before .before .before .before .before .before .before .record-at .ensures) (c .before .before .before .before .before .before .x2 .given .1) (c .before .before .before .number .ensures)) (c .before .before .put-line2 .ensures .0) (c .before .before .put-line2 .ensures .2)
+returns-4 c = let s = c .before .before .before .before .before .before .before .before .before .before .before
+    .before .before .args .session in finish-as s _ _ (last-refused s _
+    (c .before .before .before .before .before .before .before .before .before .enum-told2 .given .1)
+    (c .before .before .before .before .before .before .before .before .record-at .ensures)
+    (c .before .before .before .before .before .before .x2 .given .1) (c .before .before .before .number .ensures))
+    (c .before .before .put-line2 .ensures .0) (c .before .before .put-line2 .ensures .2)
 
 returns-5 : tie.Need-returns-5
-returns-5 c = let s = c .before .before .before .before .args .session in finish-none s _ _ (last-over s _ (c .enum-told4 .given .1))
+returns-5 c = let s = c .before .before .before .before .args .session in
+    finish-none s _ _ (last-over s _ (c .enum-told4 .given .1))
 
 pub finish-spec : {M : Type 1} → statement M
 finish-spec =
