@@ -1,5 +1,6 @@
 //! Ours beside the Rust: `sides compare`, `sides bench`.
 
+mod aims;
 mod bench;
 mod calls;
 mod entries;

@@ -237,6 +237,11 @@ impl Record {
         other
     }
 
+    /// The path in a slot, if it is open.
+    pub(super) fn path(&self, slot: usize) -> Option<&Liveness<u64>> {
+        self.slots[slot].as_ref().map(|slot| &slot.live)
+    }
+
     /// Every field of the path in a slot, if it is open.
     pub fn image(&self, slot: usize) -> Option<Image> {
         self.slots[slot].as_ref().map(|slot| slot.live.image())
