@@ -12,6 +12,7 @@ mod random;
 mod rivals;
 mod scripts;
 mod single;
+mod smaller;
 
 use scripts::{Scripts, name_of};
 use single::Single;
