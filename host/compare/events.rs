@@ -59,6 +59,8 @@ pub struct Theme {
     damage: u64,
     /// Whether size searches are led through to their end.
     led: bool,
+    /// Events, in a hundred, with neither an instant nor a draw: their records are short.
+    bare: u64,
 }
 
 /// Ordinary life; the others say what they do otherwise.
@@ -81,6 +83,23 @@ const LIFE: Theme = Theme {
     unread: 0,
     damage: 0,
     led: false,
+    bare: 0,
+};
+
+/// Short records of all kinds and refusals, for files of very many.
+#[rustfmt::skip]
+pub const SHORT: Theme = Theme {
+    name: "short",
+    seed: 11,
+    kinds: &[
+        (PROBE, 14), (ANSWER, 14), (POLL, 8), (SAMPLE, 4), (FOLD, 10), (PROVE, 6), (SEARCH, 6),
+        (JUDGE, 4), (HEAR, 3), (FRESH, 4), (THAW, 4), (SWEEP, 3), (CLOSE, 7), (CHOOSE, 4),
+        (OPEN, 3),
+    ],
+    slots: 8,
+    damage: 2,
+    bare: 40,
+    ..LIFE
 };
 
 /// The themes, in the order in which they are written.
@@ -333,6 +352,10 @@ impl<'a> Scene<'a> {
         self.spoil(&mut event);
         if self.filed {
             event = fitted(&event, kind);
+        }
+        if self.theme.bare > 0 && self.rng.percent(self.theme.bare) {
+            event.now = 0;
+            event.id *= u32::from(event.kind == ANSWER);
         }
         let reply = self.record.event(&event);
         if reply.0 == 0 && matches!(event.kind, PROBE | SEARCH) {

@@ -8,6 +8,7 @@ use oracle::proto::path::record::Event;
 /// A list and its file; where each of its records ends.
 #[derive(Clone)]
 pub struct Filed {
+    #[allow(dead_code)]
     pub settings: [u64; 4],
     pub events: Vec<Event>,
     pub bytes: Vec<u8>,
