@@ -261,7 +261,7 @@ impl Carries {
 
     /// Whether for every allowed L: proven <= L, and proven >= full or L <= proven + 31.
     pub fn fit(&self, proven: u64, full: u64) -> bool {
-        let near = self.below.is_some_and(|below| below - 1 <= proven + 31);
+        let near = self.below.is_some_and(|below| below <= proven + 31 + 1);
         !self.any() || proven <= self.least && (proven >= full || near)
     }
 }

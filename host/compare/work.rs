@@ -18,7 +18,7 @@ use std::time::Instant;
 
 /// Threads; lists of 20 to 80 events, all their beginnings; the events that these must have.
 const THREADS: usize = 2;
-const LISTS: usize = 60_000;
+const LISTS: usize = 55_000;
 const EVENTS: u64 = 2_000_000;
 /// Lists of some hundred events, the last beginnings of them; lists of thousands, some beginnings.
 const MIDDLE: usize = 1_000;
@@ -28,9 +28,9 @@ const LONG: usize = 30;
 const CUTS: usize = 60;
 const DAMAGED: usize = 100_000;
 /// Lists in which a fault's own clauses are looked for.
-const CHECKED: usize = 4_000;
+const CHECKED: usize = 3_000;
 /// Runs that a difference is made smaller in.
-const TRIES: usize = 40_000;
+const TRIES: usize = 10_000;
 const SEED: u64 = 800;
 
 /// One piece of the work by its number; the pieces of a part.
