@@ -63,5 +63,6 @@ pub fn answered_since(i: &Image) -> bool {
 /// The first one that waits.
 pub fn waits_since(i: &Image) -> Option<u64> {
     let mut ring = (RING..LATE).step_by(5).filter(|&at| i[at] == 1);
-    ring.find(|&at| after_search(i, i[at + 1])).map(|at| i[at + 1])
+    ring.find(|&at| after_search(i, i[at + 1]))
+        .map(|at| i[at + 1])
 }

@@ -143,7 +143,10 @@ impl Worker {
                 };
                 (event(ANSWER, id), reply)
             });
-            let sweep = (event(SWEEP, 0), (0, if swept { ids.len() as u64 } else { 0 }));
+            let sweep = (
+                event(SWEEP, 0),
+                (0, if swept { ids.len() as u64 } else { 0 }),
+            );
             let mut all: Vec<_> = answers.collect();
             all.insert(if swept { 0 } else { all.len() }, sweep);
             events.extend(all.iter().map(|one| one.0));
@@ -168,7 +171,10 @@ impl Worker {
         let (reply, bytes) = self.ours.run(file, lent)?;
         let made = expected.unwrap_or_default();
         if (reply.number, reply.value) != (number, made.len() as u64) || bytes != made {
-            return Err(format!("ours {reply:?}, the Rust's {number}, {}", made.len()));
+            return Err(format!(
+                "ours {reply:?}, the Rust's {number}, {}",
+                made.len()
+            ));
         }
         self.tally.calls += 1;
         Ok(number)

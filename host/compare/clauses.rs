@@ -64,7 +64,10 @@ impl Tried {
 
     /// Events that showed a ring of ours to be its book's.
     pub fn rings(&mut self, events: u64) {
-        *self.counts.entry("probes and sweeps that show rings of ours").or_default() += events;
+        *self
+            .counts
+            .entry("probes and sweeps that show rings of ours")
+            .or_default() += events;
     }
 
     /// The counts of two threads together.
@@ -163,8 +166,7 @@ impl<'a> Checker<'a> {
         let named = out.is_some();
         self.tried.count("answers to the search probe", named);
         let why = || format!("answer {} has {value}", e.id);
-        self.tried
-            .hold(Clause::Values, (value == 3) == named, why);
+        self.tried.hold(Clause::Values, (value == 3) == named, why);
         if value == 1 {
             book.in_time += 1;
             let first = book.timely.insert(e.id);
@@ -213,7 +215,8 @@ impl<'a> Checker<'a> {
     fn prove(&mut self, book: &mut Book, e: &Event) -> Turn {
         book.carries.carried(e.len.into());
         let turn = book.prove(e.len.into());
-        self.tried.count("proves that left a lost size near", turn.near);
+        self.tried
+            .count("proves that left a lost size near", turn.near);
         turn
     }
 
@@ -226,8 +229,10 @@ impl<'a> Checker<'a> {
         book.search(value as u32, e.now, size.unwrap_or(0));
         self.tried.count("search probes", true);
         self.tried.most = self.tried.most.max(book.searches);
-        self.tried
-            .count("search probes, the twelfth from a start", book.searches == 12);
+        self.tried.count(
+            "search probes, the twelfth from a start",
+            book.searches == 12,
+        );
         let why = || format!("{} search probes from a start on", book.searches);
         self.tried.hold(Clause::Twelve, book.searches <= 12, why);
         Turn::default()
@@ -240,7 +245,8 @@ impl<'a> Checker<'a> {
             "judgements that leave a search probe out",
             !loses && book.out.is_some(),
         );
-        self.tried.count("judgements with none out", book.out.is_none());
+        self.tried
+            .count("judgements with none out", book.out.is_none());
         let why = || format!("judge {} has {value}", e.now);
         self.tried
             .hold(Clause::Values, value == u64::from(loses), why);
@@ -300,7 +306,9 @@ impl<'a> Checker<'a> {
         tried.count("chooses that a tier narrows", high < few);
         tried.count("chooses of tier 0", tier == Some(0));
         tried.count("chooses that fitting narrows", fit < high);
-        tried.hold(Clause::Choose, holds, || format!("choose {margin} gives {reply:?}"));
+        tried.hold(Clause::Choose, holds, || {
+            format!("choose {margin} gives {reply:?}")
+        });
     }
 
     /// A path of the Rust's record beside its book, after an event on it.

@@ -1,9 +1,9 @@
 //! Lists of events as the bytes of a file.
 
-use crate::events::{List, fitted};
+use crate::events::{CLOSE, List, SHORT, fitted};
 use crate::random::Rng;
 use oracle::proto::path::eventfile::{WIDTHS, fields_of};
-use oracle::proto::path::record::Event;
+use oracle::proto::path::record::{Event, SLOTS};
 
 /// A list and its file; where each of its records ends.
 #[derive(Clone)]
@@ -68,4 +68,16 @@ pub fn put_record(e: &Event, spare: u8, out: &mut Vec<u8>) {
     for bit in stand.into_iter().map(usize::from) {
         out.extend_from_slice(&fields[bit].to_le_bytes()[..WIDTHS[bit]]);
     }
+}
+
+/// Short records of all kinds; the last ones close every slot, so that another turn may follow.
+#[allow(dead_code)]
+pub fn turn(seed: u64, len: usize) -> Vec<Event> {
+    let mut events = SHORT.filed(seed, len - SLOTS).events;
+    events.extend((0..SLOTS as u8).map(|slot| Event {
+        kind: CLOSE,
+        slot,
+        ..Event::default()
+    }));
+    events
 }

@@ -13,10 +13,10 @@ mod papers;
 mod random;
 mod wording;
 
-use events::{CHOOSE, CLOSE, SHORT, THEMES, fitted};
-use filed::{Filed, put_record};
+use events::{CHOOSE, THEMES, fitted};
+use filed::{Filed, put_record, turn};
 use oracle::proto::path::eventfile::{fields_of, lines_of};
-use oracle::proto::path::record::{Event, SLOTS};
+use oracle::proto::path::record::Event;
 use std::io::Result;
 use std::path::Path;
 
@@ -29,11 +29,31 @@ const LISTS: usize = 100;
 /// The papers' lists that are examples: file, list, what it shows.
 const EXAMPLES: [(&str, &str, &str); 6] = [
     ("first", "five lines", "Document 01's example."),
-    ("refusals", "each refusal", "Each refusal that an event can bring."),
-    ("deferral", "deferral", "Data after a probe defers it to its cap deadline, and no further."),
-    ("late", "late holes", "Late answers; a hole in the late list is not filled first."),
-    ("search", "halves", "A size search by halves to its end, and past 600 s."),
-    ("choice", "tiers and pins", "Pinned first, then the highest tier, then the fitting."),
+    (
+        "refusals",
+        "each refusal",
+        "Each refusal that an event can bring.",
+    ),
+    (
+        "deferral",
+        "deferral",
+        "Data after a probe defers it to its cap deadline, and no further.",
+    ),
+    (
+        "late",
+        "late holes",
+        "Late answers; a hole in the late list is not filled first.",
+    ),
+    (
+        "search",
+        "halves",
+        "A size search by halves to its end, and past 600 s.",
+    ),
+    (
+        "choice",
+        "tiers and pins",
+        "Pinned first, then the highest tier, then the fitting.",
+    ),
 ];
 
 fn main() -> Result<()> {
@@ -95,17 +115,10 @@ fn examples(folder: &Path) -> Result<()> {
 /// then a record that is cut.
 fn long_file() -> Vec<u8> {
     let first = paper("each refusal");
-    let close = (0..SLOTS as u8).map(|slot| Event {
-        kind: CLOSE,
-        slot,
-        ..Event::default()
-    });
     let mut events = Vec::new();
-    for turn in 0..TURNS {
-        let left = EVENTS / TURNS - first.events.len() - SLOTS;
+    for n in 0..TURNS {
         events.extend(&first.events);
-        events.extend(SHORT.filed(SEED + turn as u64, left).events);
-        events.extend(close.clone());
+        events.extend(turn(SEED + n as u64, EVENTS / TURNS - first.events.len()));
     }
     let mut bytes = Filed::new(first.settings, events, || 0).bytes;
     bytes.extend([1, 4, 0, 9]);

@@ -1,8 +1,8 @@
 //! The program `pathlog` byte for byte: a file in, lines out.
 
 use crate::damage::damaged;
-use crate::events::{SHORT, THEMES};
-use crate::filed::Filed;
+use crate::events::THEMES;
+use crate::filed::{Filed, turn};
 use crate::random::Rng;
 use crate::wording::words;
 use oracle::proto::path::eventfile::{SETTINGS, lines_of};
@@ -42,6 +42,11 @@ fn made(n: usize, len: usize) -> Filed {
     Filed::of(&list, n as u64)
 }
 
+/// Very many events.
+fn long() -> Vec<u8> {
+    Filed::new([SEED; 4], turn(SEED, EVENTS), || 0).bytes
+}
+
 fn cases(rng: &mut Rng) -> Vec<Case> {
     let whole = made(0, 12).bytes;
     let mut all: Vec<Case> = (0..=whole.len())
@@ -59,7 +64,7 @@ fn cases(rng: &mut Rng) -> Vec<Case> {
         all.push(("a damaged file", file));
     }
     all.extend((0..LISTS).map(|n| ("a list", made(n, 10 + 7 * n).bytes)));
-    let long = Filed::of(&SHORT.filed(SEED, EVENTS), 0).bytes;
+    let long = long();
     all.push(("a long file, cut", long[..long.len() - 1].to_vec()));
     all.push(("a long file", long));
     all
@@ -101,8 +106,15 @@ fn one(path: &str, part: &str, file: &[u8], piece: usize) -> usize {
     let expected = lines_of(file);
     if found != expected || !status.success() {
         let at = (0..found.len()).find(|&at| expected.get(at) != Some(&found[at]));
-        println!("pathlog on {part} of {} bytes, pieces of {piece}: {status}", file.len());
-        println!("  {} bytes, the Rust's {}, at {at:?}", found.len(), expected.len());
+        println!(
+            "pathlog on {part} of {} bytes, pieces of {piece}: {status}",
+            file.len()
+        );
+        println!(
+            "  {} bytes, the Rust's {}, at {at:?}",
+            found.len(),
+            expected.len()
+        );
         if file.len() < 2_000 {
             println!("{}", words(file));
         }
@@ -113,7 +125,7 @@ fn one(path: &str, part: &str, file: &[u8], piece: usize) -> usize {
 
 /// Nobody reads its lines any more: it ends, and not with success.
 fn broken(path: &str) {
-    let file = Filed::of(&SHORT.filed(SEED, EVENTS), 0).bytes;
+    let file = long();
     let (mut child, mut input) = started(path);
     let mut few = [0; 10];
     let mut output = child.stdout.take().expect("a pipe");

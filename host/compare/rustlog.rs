@@ -1,7 +1,8 @@
 //! `pathlog` over the Rust's record: standard input by 64 KB, the same lines to standard output.
 
 use oracle::proto::path::eventfile::{Next, SETTINGS, opened, put_line, record_at};
-use std::io::{BufWriter, Read, StdinLock, Write};
+use oracle::proto::path::record::Record;
+use std::io::{BufWriter, Read, Result, StdinLock, Write};
 
 const PORTION: usize = 65_536;
 
@@ -19,18 +20,19 @@ impl Input {
     }
 
     /// Read some more behind what is left.
-    fn fill(&mut self) {
+    fn fill(&mut self) -> Result<()> {
         self.bytes.drain(..self.at);
         self.at = 0;
         let left = self.bytes.len();
         self.bytes.resize(left + PORTION, 0);
-        let more = self.from.read(&mut self.bytes[left..]).expect("standard input");
+        let more = self.from.read(&mut self.bytes[left..])?;
         self.bytes.truncate(left + more);
         self.ended = more == 0;
+        Ok(())
     }
 }
 
-fn main() {
+fn main() -> Result<()> {
     let mut out = BufWriter::with_capacity(PORTION, std::io::stdout().lock());
     let mut input = Input {
         from: std::io::stdin().lock(),
@@ -39,29 +41,31 @@ fn main() {
         ended: false,
     };
     while input.rest().len() < SETTINGS && !input.ended {
-        input.fill();
+        input.fill()?;
     }
     match opened(input.rest()) {
-        Err(why) => put_line(&mut out, 0, 0, (why, 0)),
-        Ok(mut record) => {
+        Err(why) => put_line(&mut out, 0, 0, (why, 0))?,
+        Ok(record) => {
             input.at = SETTINGS;
-            let mut number = 1;
-            loop {
-                match record_at(input.rest()) {
-                    Next::Event(event, len) => {
-                        put_line(&mut out, number, event.kind, record.event(&event));
-                        input.at += len;
-                        number += 1;
-                    }
-                    Next::End | Next::Bad(13, _) if !input.ended => input.fill(),
-                    Next::End => break,
-                    Next::Bad(why, kind) => {
-                        put_line(&mut out, number, kind, (why, 0));
-                        break;
-                    }
-                }
-            }
+            lines(record, &mut input, &mut out)?;
         }
     }
-    out.flush().expect("standard output");
+    out.flush()
+}
+
+/// A line for each record.
+fn lines(mut record: Record, input: &mut Input, out: &mut impl Write) -> Result<()> {
+    let mut number = 1;
+    loop {
+        match record_at(input.rest()) {
+            Next::Event(event, len) => {
+                put_line(out, number, event.kind, record.event(&event))?;
+                input.at += len;
+                number += 1;
+            }
+            Next::End | Next::Bad(13, _) if !input.ended => input.fill()?,
+            Next::End => return Ok(()),
+            Next::Bad(why, kind) => return put_line(out, number, kind, (why, 0)),
+        }
+    }
 }

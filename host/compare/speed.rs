@@ -12,24 +12,20 @@ mod filed;
 mod papers;
 mod random;
 
-use events::SHORT;
-use filed::Filed;
+use filed::{Filed, put_record, turn};
 use oracle::proto::path::record::{Record, SLOTS};
 use oracle::proto::path::script::path_bytes;
 use std::fs::File;
-use std::path::{Path, PathBuf};
+use std::io::{BufWriter, Result, Write};
+use std::path::Path;
 use std::process::{Command, Stdio};
-use std::time::Instant;
+use std::time::{Duration, Instant};
 
 const RUNS: usize = 9;
 const SIZES: [usize; 3] = [100_000, 1_000_000, 10_000_000];
+const TURN: usize = 100_000;
+const SETTINGS: [u64; 4] = [1_000_000_000; 4];
 const SEED: u64 = 1100;
-
-/// Seconds and peak memory in KB of one run.
-struct Run {
-    seconds: f64,
-    memory: i64,
-}
 
 fn main() {
     let words: Vec<String> = std::env::args().skip(1).collect();
@@ -41,11 +37,9 @@ fn main() {
         "| Events | bytes | pathlog, s | events a second | the Rust's, s | events a second | ratio | pathlog, peak KB | the Rust's |"
     );
     println!("|---|---|---|---|---|---|---|---|---|");
-    let whole = made(SIZES[2]);
     for events in SIZES {
-        let bytes = whole.beginning(events);
         let file = Path::new(folder).join(format!("{events}.events"));
-        std::fs::write(&file, bytes).expect("a file");
+        let bytes = write(&file, events).expect("a file");
         assert_eq!(lines(ours, &file), lines(rust, &file), "they differ");
         let mut runs = [Vec::new(), Vec::new()];
         for _ in 0..RUNS {
@@ -53,18 +47,19 @@ fn main() {
                 runs.push(run(program, &file));
             }
         }
+        let peaks = [ours, rust].map(|program| peak(program, &file));
         let [ours, rust] = runs.map(median);
-        let each = |run: &Run| events as f64 / run.seconds;
+        let each = |seconds: f64| events as f64 / seconds;
         println!(
             "| {events} | {} | {:.3} | {:.0} | {:.3} | {:.0} | {:.2} | {} | {} |",
-            bytes.len(),
-            ours.seconds,
-            each(&ours),
-            rust.seconds,
-            each(&rust),
-            ours.seconds / rust.seconds,
-            ours.memory,
-            rust.memory
+            bytes,
+            ours,
+            each(ours),
+            rust,
+            each(rust),
+            ours / rust,
+            peaks[0],
+            peaks[1]
         );
         std::fs::remove_file(file).expect("the file goes");
     }
@@ -77,14 +72,25 @@ fn main() {
     );
 }
 
-/// The events of the longest file: the others are its beginnings.
-fn made(events: usize) -> Filed {
-    let list = SHORT.filed(SEED, events);
-    Filed::new(list.settings, list.events, || 0)
+/// Write a file of so many events, in turns; its bytes.
+fn write(path: &Path, events: usize) -> Result<usize> {
+    let mut file = BufWriter::new(File::create(path)?);
+    let mut bytes = Filed::new(SETTINGS, Vec::new(), || 0).bytes;
+    let mut all = 0;
+    for n in 0..events / TURN {
+        for event in turn(SEED + n as u64, TURN) {
+            put_record(&event, 0, &mut bytes);
+        }
+        file.write_all(&bytes)?;
+        all += bytes.len();
+        bytes.clear();
+    }
+    file.flush()?;
+    Ok(all)
 }
 
 /// A program on a file, its lines to somewhere.
-fn command(program: &str, file: &PathBuf, lines: Stdio) -> Command {
+fn command(program: &str, file: &Path, lines: Stdio) -> Command {
     let mut command = Command::new(program);
     let input = File::open(file).expect("the file");
     command.stdin(input).stdout(lines);
@@ -92,54 +98,43 @@ fn command(program: &str, file: &PathBuf, lines: Stdio) -> Command {
 }
 
 /// How many bytes a program prints, and a sum over them.
-fn lines(program: &str, file: &PathBuf) -> (usize, u64) {
+fn lines(program: &str, file: &Path) -> (usize, u64) {
     let output = command(program, file, Stdio::piped()).output();
     let bytes = output.expect("a run").stdout;
     let sum = |sum: u64, byte: &u8| sum.wrapping_mul(31).wrapping_add(u64::from(*byte));
     (bytes.len(), bytes.iter().fold(7, sum))
 }
 
-/// Seconds from its start to its end, and its peak memory.
-fn run(program: &str, file: &PathBuf) -> Run {
+/// Seconds from its start to its end.
+fn run(program: &str, file: &Path) -> f64 {
     let start = Instant::now();
-    let child = command(program, file, Stdio::null()).spawn();
-    let (status, memory) = waited(child.expect("a start").id() as i32);
+    let status = command(program, file, Stdio::null()).status();
     let seconds = start.elapsed().as_secs_f64();
-    assert_eq!(status, 0, "{program} failed");
-    Run { seconds, memory }
+    assert!(status.expect("a run").success(), "{program} failed");
+    seconds
 }
 
-fn median(mut runs: Vec<Run>) -> Run {
-    let memory = runs.iter().map(|run| run.memory).max().unwrap_or(0);
-    runs.sort_by(|a, b| a.seconds.total_cmp(&b.seconds));
-    Run {
-        seconds: runs[runs.len() / 2].seconds,
-        memory,
-    }
+/// The peak of its memory in KB, read while it waits for more after the whole file. (The usage that the
+/// system gives at its end would count what this program had when it started it.)
+fn peak(program: &str, file: &Path) -> u64 {
+    let mut child = command(program, file, Stdio::null())
+        .stdin(Stdio::piped())
+        .spawn()
+        .expect("a start");
+    let mut input = child.stdin.take().expect("a pipe");
+    let mut from = File::open(file).expect("the file");
+    std::io::copy(&mut from, &mut input).expect("the file goes in");
+    std::thread::sleep(Duration::from_millis(500));
+    let status = std::fs::read_to_string(format!("/proc/{}/status", child.id()));
+    let status = status.expect("its status");
+    let line = status.lines().find_map(|line| line.strip_prefix("VmHWM:"));
+    let number = line.and_then(|line| line.split_whitespace().next()?.parse().ok());
+    drop(input);
+    child.wait().expect("its end");
+    number.expect("its peak")
 }
 
-/// `struct rusage` of 64-bit Linux: two times of two words, then the peak in KB, then thirteen more.
-#[repr(C)]
-struct Usage {
-    times: [i64; 4],
-    peak: i64,
-    rest: [i64; 13],
-}
-
-unsafe extern "C" {
-    fn wait4(pid: i32, status: *mut i32, options: i32, usage: *mut Usage) -> i32;
-}
-
-/// The status of a child that ended, and its peak memory in KB.
-fn waited(pid: i32) -> (i32, i64) {
-    let mut status = 0;
-    let mut usage = Usage {
-        times: [0; 4],
-        peak: 0,
-        rest: [0; 13],
-    };
-    // Both places are good for what is written there; nobody else waits for this child.
-    let ended = unsafe { wait4(pid, &mut status, 0, &mut usage) };
-    assert_eq!(ended, pid, "no such child");
-    (status, usage.peak)
+fn median(mut runs: Vec<f64>) -> f64 {
+    runs.sort_by(f64::total_cmp);
+    runs[runs.len() / 2]
 }

@@ -169,7 +169,11 @@ fn put(first: &str, rest: &[&str], out: &mut Vec<u8>) -> Result<(), String> {
     }
     if first == "settings" {
         for name in SETTINGS {
-            out.extend(named(rest, name)?.ok_or(format!("no {name}"))?.to_le_bytes());
+            out.extend(
+                named(rest, name)?
+                    .ok_or(format!("no {name}"))?
+                    .to_le_bytes(),
+            );
         }
         return known(rest, &SETTINGS);
     }

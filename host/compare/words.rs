@@ -7,7 +7,9 @@ use std::io::{Read, Write};
 
 fn main() -> std::process::ExitCode {
     let mut given = Vec::new();
-    std::io::stdin().read_to_end(&mut given).expect("standard input");
+    std::io::stdin()
+        .read_to_end(&mut given)
+        .expect("standard input");
     let made = match std::env::args().nth(1).as_deref() {
         Some("read") => Ok(wording::words(&given).into_bytes()),
         Some("write") => String::from_utf8(given)
@@ -17,7 +19,9 @@ fn main() -> std::process::ExitCode {
     };
     match made {
         Ok(bytes) => {
-            std::io::stdout().write_all(&bytes).expect("standard output");
+            std::io::stdout()
+                .write_all(&bytes)
+                .expect("standard output");
             0.into()
         }
         Err(why) => {

@@ -66,7 +66,10 @@ pub fn compare() {
         }
     }
     print(&tally, &counts);
-    println!("no difference in lists; {:.1} seconds", start.elapsed().as_secs_f64());
+    println!(
+        "no difference in lists; {:.1} seconds",
+        start.elapsed().as_secs_f64()
+    );
     let missing = missing(&tally, &counts);
     if !missing.is_empty() {
         println!("never reached: {missing:?}");
@@ -147,9 +150,7 @@ fn list(worker: &mut Worker, _: &mut Counts, n: usize) -> Result<(), Failure> {
     let needs = output_of(&filed.bytes).map_or(0, |made| made.len());
     let some = Rng::new(n as u64).below(needs as u64) as usize;
     for lent in [needs - 1, some, 0] {
-        worker
-            .lent(&filed.bytes, lent)
-            .map_err(failure(&filed))?;
+        worker.lent(&filed.bytes, lent).map_err(failure(&filed))?;
     }
     Ok(())
 }
@@ -175,7 +176,9 @@ fn file(worker: &mut Worker, counts: &mut Counts, part: &str, bytes: &[u8]) -> R
         filed: None,
         bytes: bytes.to_vec(),
     })?;
-    *counts.entry(format!("{part}, number {number}")).or_default() += 1;
+    *counts
+        .entry(format!("{part}, number {number}"))
+        .or_default() += 1;
     Ok(())
 }
 
@@ -313,7 +316,10 @@ fn difference(settings: [u64; 4], events: &[Event]) -> Option<String> {
     };
     if let Some(n) = (0..rust.len()).find(|&n| rust[n] != ours[n]) {
         let (rust, ours) = (rust[n], ours[n]);
-        return Some(format!("event {}: ours {ours:?}, the Rust's {rust:?}", n + 1));
+        return Some(format!(
+            "event {}: ours {ours:?}, the Rust's {rust:?}",
+            n + 1
+        ));
     }
     let what = worker.file(&filed.bytes).err()?;
     Some(format!("the standings after the last event: {what}"))

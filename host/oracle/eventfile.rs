@@ -3,13 +3,16 @@
 
 use super::record::{Event, Record, Reply};
 use super::script::word;
-use std::io::Write;
+use std::io::{Result, Write};
 
 /// Bytes of the settings.
 pub const SETTINGS: usize = 32;
 /// Bytes of map, kind and slot; of the fields, by their bit in the map.
 pub const HEAD: usize = 3;
 pub const WIDTHS: [usize; 6] = [8, 8, 4, 2, 2, 1];
+
+/// A value, or a refusal.
+type Refusable<T> = core::result::Result<T, u64>;
 
 /// What stands at a place of a file.
 #[derive(Clone, Copy, Debug, PartialEq, Eq)]
@@ -92,7 +95,7 @@ fn event_of(map: u8, bytes: &[u8]) -> Event {
 }
 
 /// The record that a file's settings make: 13 if they are cut short, 6 if one is too large.
-pub fn opened(file: &[u8]) -> Result<Record, u64> {
+pub fn opened(file: &[u8]) -> Refusable<Record> {
     if file.len() < SETTINGS {
         return Err(13);
     }
@@ -100,40 +103,39 @@ pub fn opened(file: &[u8]) -> Result<Record, u64> {
 }
 
 /// A line of `pathlog`.
-pub fn put_line(out: &mut impl Write, number: u64, kind: u8, reply: Reply) {
+pub fn put_line(out: &mut impl Write, number: u64, kind: u8, reply: Reply) -> Result<()> {
     let (refusal, value) = reply;
-    writeln!(out, "{number} {kind} {refusal} {value}").expect("a line is written");
+    writeln!(out, "{number} {kind} {refusal} {value}")
 }
 
 /// All that `pathlog` writes for a file.
 pub fn lines_of(file: &[u8]) -> Vec<u8> {
     let mut out = Vec::new();
+    put_lines(file, &mut out).expect("bytes take lines");
+    out
+}
+
+fn put_lines(file: &[u8], out: &mut Vec<u8>) -> Result<()> {
     let mut record = match opened(file) {
         Ok(record) => record,
-        Err(why) => {
-            put_line(&mut out, 0, 0, (why, 0));
-            return out;
-        }
+        Err(why) => return put_line(out, 0, 0, (why, 0)),
     };
     let mut rest = &file[SETTINGS..];
     for number in 1.. {
         match record_at(rest) {
             Next::End => break,
             Next::Event(event, len) => {
-                put_line(&mut out, number, event.kind, record.event(&event));
+                put_line(out, number, event.kind, record.event(&event))?;
                 rest = &rest[len..];
             }
-            Next::Bad(why, kind) => {
-                put_line(&mut out, number, kind, (why, 0));
-                break;
-            }
+            Next::Bad(why, kind) => return put_line(out, number, kind, (why, 0)),
         }
     }
-    out
+    Ok(())
 }
 
 /// A file's events, or the refusal of its first record that can't be read.
-pub fn events_in(mut rest: &[u8]) -> Result<Vec<Event>, u64> {
+pub fn events_in(mut rest: &[u8]) -> Refusable<Vec<Event>> {
     let mut events = Vec::new();
     loop {
         match record_at(rest) {
@@ -148,7 +150,7 @@ pub fn events_in(mut rest: &[u8]) -> Result<Vec<Event>, u64> {
 }
 
 /// Every reply to a file's events, 16 bytes each, then the standings of the open slots.
-pub fn output_of(file: &[u8]) -> Result<Vec<u8>, u64> {
+pub fn output_of(file: &[u8]) -> Refusable<Vec<u8>> {
     let mut record = opened(file)?;
     let mut out = Vec::new();
     for event in events_in(&file[SETTINGS..])? {
