@@ -4,7 +4,7 @@
 use crate::aims::{MS, SECOND, answered_since, duration, instants, waits_since, weighted};
 use crate::calls::{IDS, PROVEN, RING, SEEK};
 use crate::random::Rng;
-use oracle::proto::path::eventfile::fields_of;
+use oracle::proto::path::eventfile::{WIDTHS, fields_of};
 use oracle::proto::path::record::{Event, Record, Reply, SLOTS};
 use oracle::proto::path::script::Image;
 
@@ -267,17 +267,12 @@ pub fn fitted(e: &Event, kind: u8) -> Event {
         1..=15 => e.kind,
         _ => kind,
     };
-    let has = |bit: u8, value: u64| value * u64::from(fields_of(kind) >> bit & 1);
-    Event {
-        kind,
-        slot: e.slot,
-        now: has(0, e.now),
-        span: has(1, e.span),
-        id: has(2, e.id.into()) as u32,
-        len: has(3, (e.len as u16).into()) as u32,
-        acked: has(4, (e.acked as u16).into()) as u32,
-        flags: has(5, e.flags.into()) as u8,
+    let mut fields = e.fields();
+    for (bit, field) in fields.iter_mut().enumerate() {
+        *field *= u64::from(fields_of(kind) >> bit & 1);
+        *field &= u64::MAX >> (64 - 8 * WIDTHS[bit]);
     }
+    Event::of(kind, e.slot, fields)
 }
 
 /// One list on its way.

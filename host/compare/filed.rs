@@ -52,14 +52,7 @@ impl Filed {
 
 /// Put an event's record behind some bytes; `spare` has the bits of fields that stand though they are 0.
 pub fn put_record(e: &Event, spare: u8, out: &mut Vec<u8>) {
-    let fields = [
-        e.now,
-        e.span,
-        e.id.into(),
-        e.len.into(),
-        e.acked.into(),
-        e.flags.into(),
-    ];
+    let fields = e.fields();
     let read = |bit: u8| fields[usize::from(bit)] != 0 || spare >> bit & 1 == 1;
     let named = (0..6).filter(|&bit| fields_of(e.kind) >> bit & 1 == 1);
     let stand: Vec<u8> = named.filter(|&bit| read(bit)).collect();

@@ -270,26 +270,16 @@ fn report(failure: Failure) -> ! {
 type Row = [u64; 8];
 
 fn row(e: &Event) -> Row {
-    let (id, len, acked) = (e.id.into(), e.len.into(), e.acked.into());
-    let (kind, slot, flags) = (e.kind.into(), e.slot.into(), e.flags.into());
-    [kind, slot, e.now, e.span, id, len, acked, flags]
+    let [now, span, id, len, acked, flags] = e.fields();
+    let (kind, slot) = (e.kind.into(), e.slot.into());
+    [kind, slot, now, span, id, len, acked, flags]
 }
 
 /// Events as a file can hold them.
 fn events(rows: &[Row]) -> Vec<Event> {
     let event = |row: &Row| {
-        let [kind, slot, now, span, id, len, acked, flags] = *row;
-        let event = Event {
-            kind: kind as u8,
-            slot: slot as u8,
-            now,
-            span,
-            id: id as u32,
-            len: len as u32,
-            acked: acked as u32,
-            flags: flags as u8,
-        };
-        fitted(&event, 12)
+        let [kind, slot, fields @ ..] = *row;
+        fitted(&Event::of(kind as u8, slot as u8, fields), 12)
     };
     rows.iter().map(event).collect()
 }

@@ -81,17 +81,7 @@ fn event_of(map: u8, bytes: &[u8]) -> Event {
             rest = later;
         }
     }
-    let [now, span, id, len, acked, flags] = fields;
-    Event {
-        kind: bytes[0],
-        slot: bytes[1],
-        now,
-        span,
-        id: id as u32,
-        len: len as u32,
-        acked: acked as u32,
-        flags: flags as u8,
-    }
+    Event::of(bytes[0], bytes[1], fields)
 }
 
 /// The record that a file's settings make: 13 if they are cut short, 6 if one is too large.
