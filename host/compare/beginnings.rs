@@ -7,11 +7,12 @@ use crate::filed::Filed;
 use crate::ours::Ours;
 use crate::reach::Reach;
 use oracle::proto::path::eventfile::{WIDTHS, output_of};
-use oracle::proto::path::record::{Event, Record, Reply};
+use oracle::proto::path::record::{Event, Record, Reply, SLOTS};
 use oracle::proto::path::script::word;
 
-/// Bytes of a reply.
+/// Bytes of a reply; the most of a slot's number and standing.
 const REPLY: usize = 16;
+const STANDING: usize = 52;
 
 /// What was compared.
 #[derive(Default)]
@@ -46,6 +47,57 @@ impl Tally {
     }
 }
 
+/// The Rust's side of one list: its record, the replies that it gave, and the books.
+struct Sides<'a> {
+    record: Record,
+    replies: Vec<u8>,
+    checker: Checker<'a>,
+}
+
+impl<'a> Sides<'a> {
+    fn new(settings: [u64; 4], tried: &'a mut Tried) -> Self {
+        Self {
+            record: Record::new(settings).expect("allowed settings"),
+            replies: Vec::new(),
+            checker: Checker::new(settings, tried),
+        }
+    }
+
+    /// One event on the Rust's record, and with ours' reply in the books.
+    fn event(&mut self, event: &Event, ours: Reply, reach: &mut Reach) {
+        let before = self.record.clone();
+        let reply = self.record.event(event);
+        reach.event(event, reply, &before, &self.record);
+        put_reply(reply, &mut self.replies);
+        self.checker.event(event, ours);
+        let image = self.record.image(usize::from(event.slot) % SLOTS);
+        self.checker.image(event, reply.0 == 0, image.as_ref());
+    }
+
+    /// All replies so far and the standings now, ours beside the Rust's; how many standings.
+    fn standings(&mut self, ours: &mut Ours, file: &[u8], more: usize) -> Result<u64, String> {
+        let mut expected = self.replies.clone();
+        self.record.put_standings(&mut expected);
+        let (reply, bytes) = ours.run(file, expected.len() + more)?;
+        if (reply.number, reply.value) != (0, expected.len() as u64) || bytes != expected {
+            return Err(format!("ours {reply:?}, other bytes"));
+        }
+        let seen = standings(&bytes[self.replies.len()..]);
+        for &(slot, proven, answered) in &seen {
+            self.checker.standing(slot, proven, answered);
+        }
+        Ok(seen.len() as u64)
+    }
+
+    /// The identifiers that each open path's book has waiting.
+    fn waiting(&self) -> [Option<Vec<u32>>; SLOTS] {
+        core::array::from_fn(|slot| {
+            let book = self.checker.books[slot].as_ref()?;
+            Some(book.waiting.iter().map(|w| w.id).collect())
+        })
+    }
+}
+
 /// One thread's bytes and counts.
 #[derive(Default)]
 pub struct Worker {
@@ -58,50 +110,27 @@ impl Worker {
     /// differs, or what clause ours broke.
     pub fn list(&mut self, filed: &Filed, from: usize) -> Result<(), String> {
         let replies = self.replies(filed)?;
-        let tally = &mut self.tally;
-        let mut tried = std::mem::take(&mut tally.tried);
-        let mut checker = Checker::new(filed.settings, &mut tried);
-        let mut record = Record::new(filed.settings).expect("allowed settings");
-        let mut expected = Vec::with_capacity(REPLY * replies.len() + 512);
-        tally.reach.list(filed.events.len());
+        let mut tried = std::mem::take(&mut self.tally.tried);
+        let mut sides = Sides::new(filed.settings, &mut tried);
+        self.tally.reach.list(filed.events.len());
         for n in 0..=filed.events.len() {
             if n > 0 {
-                let event = &filed.events[n - 1];
-                let before = record.clone();
-                let reply = record.event(event);
-                tally.reach.event(event, reply, &before, &record);
-                put_reply(reply, &mut expected);
-                checker.event(event, replies[n - 1]);
-                let image = record.image(usize::from(event.slot) % 8);
-                checker.image(event, reply.0 == 0, image.as_ref());
+                sides.event(&filed.events[n - 1], replies[n - 1], &mut self.tally.reach);
             }
-            if n < from && n < filed.events.len() {
-                continue;
+            if n >= from || n == filed.events.len() {
+                let lent = n % 2 * 20;
+                let seen = sides.standings(&mut self.ours, filed.beginning(n), lent);
+                self.tally.standings += seen.map_err(|what| format!("after event {n}: {what}"))?;
+                self.tally.calls += 1;
+                self.tally.steps += n as u64;
+                self.tally.events += u64::from(n > 0);
             }
-            let written = expected.len();
-            record.put_standings(&mut expected);
-            let lent = expected.len() + n % 2 * 20;
-            let (reply, bytes) = self.ours.run(filed.beginning(n), lent)?;
-            if (reply.number, reply.value) != (0, expected.len() as u64) || bytes != expected {
-                return Err(format!("after event {n}"));
-            }
-            for (slot, proven, answered) in standings(&bytes[written..]) {
-                checker.standing(slot, proven, answered);
-                tally.standings += 1;
-            }
-            expected.truncate(written);
-            tally.calls += 1;
-            tally.steps += n as u64;
-            tally.events += u64::from(n > 0);
         }
-        let books = core::array::from_fn(|slot| {
-            let book = checker.books[slot].as_ref();
-            book.map(|book| book.waiting.iter().map(|w| w.id).collect())
-        });
-        tally.tried = tried;
-        tally.lists += 1;
-        tally.replies += filed.events.len() as u64;
-        self.close(filed, &books)?;
+        let waiting = sides.waiting();
+        self.tally.tried = tried;
+        self.tally.lists += 1;
+        self.tally.replies += filed.events.len() as u64;
+        self.close(filed, &waiting)?;
         match self.tally.tried.broken.iter().next() {
             Some((clause, (_, why))) => Err(format!("clause {clause:?}: {why}")),
             None => Ok(()),
@@ -111,7 +140,7 @@ impl Worker {
     /// Ours' reply to each event.
     pub fn replies(&mut self, filed: &Filed) -> Result<Vec<Reply>, String> {
         let count = filed.events.len();
-        let lent = REPLY * count + 8 * 52;
+        let lent = REPLY * count + SLOTS * STANDING;
         let (reply, bytes) = self.ours.run(&filed.bytes, lent)?;
         if reply.number != 0 || bytes.len() < REPLY * count {
             return Err(format!("ours: {reply:?}"));
@@ -120,44 +149,24 @@ impl Worker {
         Ok((0..count).map(reply).collect())
     }
 
-    /// Whether the ring of ours holds what the books have waiting. Either each is answered in time and
-    /// none is left to sweep; or all are swept and the last four answered late, in their order.
-    fn close(&mut self, filed: &Filed, books: &[Option<Vec<u32>>; 8]) -> Result<(), String> {
-        let mut events = filed.events.clone();
-        let mut expected = Vec::new();
+    /// Whether the ring of ours holds what the books have waiting, by more events at the list's end.
+    fn close(&mut self, filed: &Filed, waiting: &[Option<Vec<u32>>; SLOTS]) -> Result<(), String> {
         let swept = filed.events.len() % 2 == 1;
-        for (slot, ids) in books.iter().enumerate() {
-            let Some(ids) = ids else { continue };
-            let event = |kind, id| Event {
-                kind,
-                slot: slot as u8,
-                id,
-                ..Event::default()
-            };
-            let late = ids.len().saturating_sub(4);
-            let answers = ids.iter().enumerate().map(|(n, &id)| {
-                let reply = match (swept, n < late) {
-                    (false, _) => (0, 1),
-                    (true, false) => (0, 2),
-                    (true, true) => (9, 0),
-                };
-                (event(ANSWER, id), reply)
-            });
-            let sweep = (
-                event(SWEEP, 0),
-                (0, if swept { ids.len() as u64 } else { 0 }),
-            );
-            let mut all: Vec<_> = answers.collect();
-            all.insert(if swept { 0 } else { all.len() }, sweep);
-            events.extend(all.iter().map(|one| one.0));
-            expected.extend(all.iter().map(|one| one.1));
+        let mut more = Vec::new();
+        for (slot, ids) in waiting.iter().enumerate() {
+            more.extend(ids.iter().flat_map(|ids| closing(slot as u8, ids, swept)));
         }
-        let more = Filed::new(filed.settings, events, || 0);
-        let replies = self.replies(&more)?;
-        self.tally.tried.rings(expected.len() as u64);
-        match replies[filed.events.len()..] == expected {
+        let mut events = filed.events.clone();
+        events.extend(more.iter().map(|(event, _)| event));
+        let replies = self.replies(&Filed::new(filed.settings, events, || 0))?;
+        self.tally.tried.rings(more.len() as u64);
+        let expected = more.iter().map(|(_, reply)| reply);
+        match replies[filed.events.len()..].iter().eq(expected) {
             true => Ok(()),
-            false => Err(format!("clause {:?}: books {books:?}", Clause::Ring)),
+            false => Err(format!(
+                "clause {:?}: the books have {waiting:?}",
+                Clause::Ring
+            )),
         }
     }
 
@@ -189,6 +198,29 @@ impl Worker {
             _ => Err(format!("{lent} lent bytes: ours {reply:?}, the Rust's 16")),
         }
     }
+}
+
+/// Events that show what waits, with their replies: each is answered in time and none is left to sweep;
+/// or all are swept, and the last four answered late.
+fn closing(slot: u8, ids: &[u32], swept: bool) -> Vec<(Event, Reply)> {
+    let event = |kind, id| Event {
+        kind,
+        slot,
+        id,
+        ..Event::default()
+    };
+    let gone = ids.len().saturating_sub(4);
+    let answer = |(n, &id): (usize, &u32)| match swept {
+        false => (event(ANSWER, id), (0, 1)),
+        true if n < gone => (event(ANSWER, id), (9, 0)),
+        true => (event(ANSWER, id), (0, 2)),
+    };
+    let mut all: Vec<_> = ids.iter().enumerate().map(answer).collect();
+    match swept {
+        true => all.insert(0, (event(SWEEP, 0), (0, ids.len() as u64))),
+        false => all.push((event(SWEEP, 0), (0, 0))),
+    }
+    all
 }
 
 /// Put a reply's two words behind some bytes.

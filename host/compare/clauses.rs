@@ -317,9 +317,15 @@ impl<'a> Checker<'a> {
         if slot >= SLOTS || e.kind == 15 {
             return;
         }
-        let (Some(book), Some(i)) = (self.books[slot].take(), image) else {
-            return;
-        };
+        if let (Some(book), Some(image)) = (self.books[slot].take(), image) {
+            self.ring(&book, e, accepted, image);
+            self.search_of(&book, image);
+            self.books[slot] = Some(book);
+        }
+    }
+
+    /// The ring holds exactly the waiting ones; a poll left none that was due.
+    fn ring(&mut self, book: &Book, e: &Event, accepted: bool, i: &Image) {
         let used = (RING..LATE).step_by(5).filter(|&at| i[at] == 1);
         let ring: Vec<_> = used.map(|at| (i[at + 1], i[at + 2], i[at + 3])).collect();
         let waiting = book.waiting.iter();
@@ -333,6 +339,10 @@ impl<'a> Checker<'a> {
                 self.left(given.copied().unwrap_or(due), sent, e);
             }
         }
+    }
+
+    /// Proven, answered, lost and out are the book's.
+    fn search_of(&mut self, book: &Book, i: &Image) {
         let size = |size: u64| (size != 0).then_some(size);
         let seen = (
             (i[PROVEN] == 1).then_some(i[PROVEN + 1]),
@@ -344,7 +354,6 @@ impl<'a> Checker<'a> {
         let told = (book.proven, book.answered, book.lost, out);
         let why = || format!("the record has {seen:?}, the book {told:?}");
         self.tried.hold(Clause::Agree, seen == told, why);
-        self.books[slot] = Some(book);
     }
 
     /// Proven and answered of a standing of ours beside the book.
