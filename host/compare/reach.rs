@@ -243,6 +243,9 @@ impl Reach {
             ("choice by preferred", Mark::Preferred),
             ("choice by medium", Mark::Medium),
         ];
+        let margin = f64::from_bits(e.span);
+        let odd = margin > 1e300 || margin > 1.0 && margin < 1.0 + 1e-15;
+        self.see("choice by a margin just above 1 or just finite", odd);
         for (name, mark) in marks {
             let moved = before.without(mark).event(e) != reply;
             self.see(name, moved);
