@@ -9,8 +9,9 @@ use crate::papers;
 use crate::random::Rng;
 use crate::smaller;
 use crate::wording::words;
-use oracle::proto::path::eventfile::output_of;
+use oracle::proto::path::eventfile::{SETTINGS, events_in, opened, output_of};
 use oracle::proto::path::record::{Event, Record};
+use oracle::proto::path::script::word;
 use std::collections::BTreeMap;
 use std::sync::Mutex;
 use std::sync::atomic::{AtomicUsize, Ordering};
@@ -50,15 +51,15 @@ pub fn compare() {
     let start = Instant::now();
     let mut tally = Tally::default();
     let mut counts = Counts::new();
-    let parts: [(&str, usize, Piece); 6] = [
-        ("papers", papers::lists().len(), paper),
-        ("lists", LISTS, list),
-        ("middle", MIDDLE, middle),
-        ("long", LONG, long),
-        ("cut", CUTS, cut),
-        ("damaged", DAMAGED / 100, damage),
+    let parts: [(usize, Piece); 6] = [
+        (papers::lists().len(), paper),
+        (CUTS, cut),
+        (DAMAGED / 100, damage),
+        (LISTS, list),
+        (MIDDLE, middle),
+        (LONG, long),
     ];
-    for (_, pieces, piece) in parts {
+    for (pieces, piece) in parts {
         let (more, found) = shared(pieces, piece);
         tally.add(more);
         for (what, count) in found {
@@ -173,13 +174,21 @@ fn long(worker: &mut Worker, _: &mut Counts, n: usize) -> Result<(), Failure> {
 fn file(worker: &mut Worker, counts: &mut Counts, part: &str, bytes: &[u8]) -> Result<(), Failure> {
     let number = worker.file(bytes).map_err(|what| Failure {
         what,
-        filed: None,
+        filed: as_list(bytes),
         bytes: bytes.to_vec(),
     })?;
     *counts
         .entry(format!("{part}, number {number}"))
         .or_default() += 1;
     Ok(())
+}
+
+/// A file whose records can all be read, as a list.
+fn as_list(bytes: &[u8]) -> Option<Filed> {
+    opened(bytes).ok()?;
+    let settings = core::array::from_fn(|n| word(bytes, n));
+    let events = events_in(&bytes[SETTINGS..]).ok()?;
+    Some(Filed::new(settings, events, || 0))
 }
 
 /// Every cut of a file.
