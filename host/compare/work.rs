@@ -19,11 +19,11 @@ use std::time::Instant;
 
 /// Threads; lists of 20 to 80 events, all their beginnings; the events that these must have.
 const THREADS: usize = 2;
-const LISTS: usize = 55_000;
+const LISTS: usize = 71_000;
 const EVENTS: u64 = 2_000_000;
 /// Lists of some hundred events, the last beginnings of them; lists of thousands, some beginnings.
 const MIDDLE: usize = 1_000;
-const LAST: usize = 24;
+const LAST: usize = 12;
 const LONG: usize = 30;
 /// Files of which every cut is compared, and damaged files.
 const CUTS: usize = 60;
@@ -133,11 +133,11 @@ fn made(n: usize, seed: u64, len: impl FnOnce(&mut Rng) -> u64) -> Filed {
     Filed::of(&theme.filed(rng.next(), len), rng.next())
 }
 
-/// 20 to 50 events, one list in sixteen up to 80.
+/// 20 to 34 events, one list in sixteen up to 80.
 fn short(rng: &mut Rng) -> u64 {
     match rng.below(16) {
-        0 => 50 + rng.below(31),
-        _ => 20 + rng.below(31),
+        0 => 35 + rng.below(46),
+        _ => 20 + rng.below(15),
     }
 }
 
