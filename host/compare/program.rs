@@ -6,6 +6,7 @@ use crate::filed::{Filed, turn};
 use crate::random::Rng;
 use crate::wording::words;
 use oracle::proto::path::eventfile::{SETTINGS, lines_of};
+use std::fs::File;
 use std::io::{Read, Write};
 use std::process::{Child, ChildStdin, Command, Stdio};
 use std::time::Instant;
@@ -32,6 +33,7 @@ pub fn compare(path: &str) {
         }
     }
     broken(path);
+    refused(path);
     let seconds = start.elapsed().as_secs_f64();
     println!("pathlog: {files} files, {lines} bytes of lines, no difference; {seconds:.1} seconds");
 }
@@ -137,6 +139,27 @@ fn broken(path: &str) {
     let status = child.wait().expect("its end");
     if status.success() {
         println!("pathlog ends with success though nobody reads its lines");
+        std::process::exit(1);
+    }
+}
+
+/// Its lines can't be written: it ends and says so, by its status or on standard error.
+fn refused(path: &str) {
+    let Ok(full) = File::create("/dev/full") else {
+        return;
+    };
+    let child = Command::new(path)
+        .stdin(Stdio::piped())
+        .stdout(full)
+        .stderr(Stdio::piped())
+        .spawn();
+    let mut child = child.unwrap_or_else(|why| panic!("{path}: {why}"));
+    let mut input = child.stdin.take().expect("a pipe");
+    let _ = input.write_all(&long());
+    drop(input);
+    let output = child.wait_with_output().expect("its end");
+    if output.status.success() && output.stderr.is_empty() {
+        println!("pathlog says nothing of lines that can't be written");
         std::process::exit(1);
     }
 }
