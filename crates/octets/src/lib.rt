@@ -2,7 +2,7 @@
 ghost use mathlib.Core.Path.{_≡_};
 ghost use lib.ListN.{length, drop};
 ghost use lib.Dec.{leb};
-ghost use Prim.Native.Nat.{_<_};
+ghost use Prim.Native.Nat.{_<_, _^_};
 ghost use Rattle.octets.specs.Octets.{le, over, wordsOf, readAt};
 
 // Writes the lowest `width` bytes of x to the front of `out`, or nothing where they do not fit; says whether they did.
@@ -48,7 +48,7 @@ fn wide(b: u8) -> u64
 
 // The number in the `width` bytes from `at` on; 0 where these are not there or are more than eight.
 pub fn get(s: &[u8], at: usize, width: usize) -> u64
-    ensures { λ r. ⌜ r ≡ readAt at width (now (s .entry)) ⌝ }
+    ensures { λ r. ⌜ (r ≡ readAt at width (now (s .entry))) × (r < 256 ^ width) ⌝ }
 {
     if 8 < width {
         return 0;

@@ -87,42 +87,42 @@ returns c =
     (c .before .before .before .before .before .before .before .before .before .before .before .before .before .before
     .before .before .before .before .before .float-of .ensures ∙ ap floatOf
     (c .before .before .before .before .before .before .before .before .before .before .before .before .before
-    .before .before .before .before .before .before .before .get2 .ensures))
+    .before .before .before .before .before .before .before .get2 .ensures .0))
     (c .before .before .before .before .before .before .before .before .before .before .before .before .before .before
     .before .before .before .float-of2 .ensures ∙ ap floatOf
     (c .before .before .before .before .before .before .before .before .before .before .before .before .before
-    .before .before .before .before .before .get3 .ensures))
+    .before .before .before .before .before .get3 .ensures .0))
     (c .before .before .before .before .before .before .before .before .before .before .before .before .before .before
-    .before .before .get4 .ensures)
+    .before .before .get4 .ensures .0)
     (c .before .before .before .before .before .before .before .before .before .before .before .before .before .before
-    .before .get5 .ensures)
+    .before .get5 .ensures .0)
     (c .before .before .before .before .before .before .before .before .before .before .before .before .before .before
-    .get6 .ensures)
+    .get6 .ensures .0)
     (c .before .before .before .before .before .before .before .before .before .before .before .before .before .get7
-    .ensures)
+    .ensures .0)
     (c .before .before .before .before .before .before .before .before .before .before .before .bit .ensures ∙ ap bitOf
     (c .before .before .before .before .before .before .before .before .before .before .before .before .get8
-    .ensures))
+    .ensures .0))
     (c .before .before .before .before .before .before .before .before .before .bit2 .ensures ∙ ap bitOf
-    (c .before .before .before .before .before .before .before .before .before .before .get9 .ensures))
+    (c .before .before .before .before .before .before .before .before .before .before .get9 .ensures .0))
     (c .before .before .before .before .before .before .before .bit3 .ensures ∙ ap bitOf
-    (c .before .before .before .before .before .before .before .before .get10 .ensures))
+    (c .before .before .before .before .before .before .before .before .get10 .ensures .0))
     (c .before .before .before .before .before .bit4 .ensures ∙ ap bitOf
-    (c .before .before .before .before .before .before .get11 .ensures))
-    (c .before .before .before .bit5 .ensures ∙ ap bitOf (c .before .before .before .before .get12 .ensures))
+    (c .before .before .before .before .before .before .get11 .ensures .0))
+    (c .before .before .before .bit5 .ensures ∙ ap bitOf (c .before .before .before .before .get12 .ensures .0))
     (c .before .before .bit6 .ensures ∙ ap bitOf (c .before .before .before .before .before .before .before .before
     .before .before .before .before .before .before .before .before .before .before .before .before .before .before
-    .get .ensures))
+    .get .ensures .0))
     (c .before .bit7 .ensures ∙ ap (λ (z : ℕ). bitOf (z / 2))
     (c .before .before .before .before .before .before .before .before .before .before .before .before .before
-    .before .before .before .before .before .before .before .before .before .get .ensures))
+    .before .before .before .before .before .before .before .before .before .get .ensures .0))
     (c .bit8 .ensures ∙ ap (λ (z : ℕ). bitOf (z / 4)) (c .before .before .before .before .before .before .before .before
     .before .before .before .before .before .before .before .before .before .before .before .before .before .before
-    .get .ensures))
+    .get .ensures .0))
     (c .before .before .before .before .before .before .before .before .before .before .before .before .before .before
     .before .before .before .before .before .before .before .medium-of .ensures ∙ ap (λ (z : ℕ). mediumOf (z / 16))
     (c .before .before .before .before .before .before .before .before .before .before .before .before .before
-    .before .before .before .before .before .before .before .before .before .get .ensures))
+    .before .before .before .before .before .before .before .before .before .get .ensures .0))
 
 pub rival-from-spec : {M : Type 1} → statement M
 rival-from-spec =

@@ -3,7 +3,8 @@
 use borrow.Author.Needs.{needs}
 use native.Mathlib.Omega.{arith}
 use Prim.Native.Nat.{_<_}
-use Rattle.octets.proofs.Read.{Reading, reading-start, reading-fits, reading-next, reading-end, read-wide, read-short}
+use Rattle.octets.proofs.Read.{Reading, reading-start, reading-fits, reading-next, reading-end, reading-small}
+use Rattle.octets.proofs.Read.{none-small, read-wide, read-short}
 use Rattle.octets.proofs.get.Statement.{statement}
 use Rattle.octets.proofs.get.Tie as tie
 
@@ -14,16 +15,16 @@ abbrev μ-loop : tie.MeasureT-loop
 μ-loop s at width x₀ left₀ x left = left
 
 returns : tie.Need-returns Inv-loop μ-loop
-returns c = read-wide _ _ _ (c .if1 .taken)
+returns c = (read-wide _ _ _ (c .if1 .taken), none-small _)
 
 returns-2 : tie.Need-returns-2 Inv-loop μ-loop
-returns-2 c = read-short _ _ _ (c .before .if1 .left) (omega arith)
+returns-2 c = (read-short _ _ _ (c .before .if1 .left) (omega arith), none-small _)
 
 sub-if3 : tie.Need-sub-if3 Inv-loop μ-loop
 sub-if3 c = search needs
 
 returns-3 : tie.Need-returns-3 Inv-loop μ-loop
-returns-3 c = read-short _ _ _ (c .before .before .if1 .left) (omega arith)
+returns-3 c = (read-short _ _ _ (c .before .before .if1 .left) (omega arith), none-small _)
 
 loop-holds : tie.Need-loop-holds Inv-loop μ-loop
 loop-holds c = reading-start (c .before .before .if1 .left) (omega arith)
@@ -53,7 +54,8 @@ loop-again : tie.Need-loop-again Inv-loop μ-loop
 loop-again c = reading-next _ (c .before .before .before .loop .inv) (c .before .before .loop-test .taken) (c .wide .ensures .0) (c .wide .ensures .1)
 
 returns-4 : tie.Need-returns-4 Inv-loop μ-loop
-returns-4 c = reading-end (c .before .loop .inv) (c .loop-test .left)
+returns-4 c =
+    (reading-end (c .before .loop .inv) (c .loop-test .left), reading-small (c .before .loop .inv) (c .loop-test .left))
 
 pub get-spec : {M : Type 1} → statement M
 get-spec =

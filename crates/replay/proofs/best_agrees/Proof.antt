@@ -46,7 +46,7 @@ get-requires : tie.Need-get-requires
 get-requires c κs = search needs
 
 returns-2 : tie.Need-returns-2
-returns-2 c = best-done _ (c .before .before .before .before .before .before .before .before .if1 .left) (c .before .before .before .before .before .hess-best .ensures .0) (c .get .ensures) (c .before .before .before .before .before .hess-best .ensures .1) (tail-from (now (c .before .before .before .before .before .before .before .before .before .before .args .bytes)) 800) (c .before .same .ensures)
+returns-2 c = best-done _ (c .before .before .before .before .before .before .before .before .if1 .left) (c .before .before .before .before .before .hess-best .ensures .0) (c .get .ensures .0) (c .before .before .before .before .before .hess-best .ensures .1) (tail-from (now (c .before .before .before .before .before .before .before .before .before .before .args .bytes)) 800) (c .before .same .ensures)
 
 pub best-agrees-spec : {M : Type 1} → statement M
 best-agrees-spec =

@@ -39,7 +39,7 @@ replies-requires : tie.Need-replies-requires
 replies-requires c κs = search needs
 
 returns-2 : tie.Need-returns-2
-returns-2 c = choose-done _ (c .before .before .before .before .before .before .before .if1 .left) (c .before .before .before .before .before .before .get .ensures) (c .before .before .before .before .before .float-of .ensures) (c .before .before .before .hess-choose .ensures) (c .before .before .get2 .ensures) (c .before .get3 .ensures) (c .replies .ensures)
+returns-2 c = choose-done _ (c .before .before .before .before .before .before .before .if1 .left) (c .before .before .before .before .before .before .get .ensures .0) (c .before .before .before .before .before .float-of .ensures) (c .before .before .before .hess-choose .ensures) (c .before .before .get2 .ensures .0) (c .before .get3 .ensures .0) (c .replies .ensures)
 
 pub choose-agrees-spec : {M : Type 1} → statement M
 choose-agrees-spec =

@@ -23,7 +23,7 @@ get-requires-6 : tie.Need-get-requires-6
 get-requires-6 c κs = search needs
 
 returns : tie.Need-returns
-returns c = rw (c .get6 .ensures, c .before .get5 .ensures, c .before .before .get4 .ensures, c .before .before .before .get3 .ensures, c .before .before .before .before .get2 .ensures, c .before .before .before .before .before .get .ensures)
+returns c = rw (c .get6 .ensures .0, c .before .get5 .ensures .0, c .before .before .get4 .ensures .0, c .before .before .before .get3 .ensures .0, c .before .before .before .before .get2 .ensures .0, c .before .before .before .before .before .get .ensures .0)
 
 pub call-from-spec : {M : Type 1} → statement M
 call-from-spec =

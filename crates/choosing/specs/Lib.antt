@@ -1,0 +1,2 @@
+-- The choice over a record's slots.
+pub mod Choosing

@@ -1,0 +1,5 @@
+-- Laws of event files.
+pub mod FrontLaws
+pub mod ReadLaws
+pub mod FileLaws
+pub mod WriteLaws

@@ -1,0 +1,68 @@
+-- `eventrun::slots::write_slot` meets its contract.
+-- Assumes nothing.
+use native.Mathlib.Omega.{arith}
+use Rattle.eventrun.proofs.SlotLaws.{size-some, slot-not, slot-none, slot-told}
+use borrow.Author.Needs.{needs}
+use Rattle.eventrun.proofs.slots.write_slot.Statement.{statement}
+use Rattle.eventrun.proofs.slots.write_slot.Tie as tie
+
+slot-size-requires : tie.Need-slot-size-requires
+slot-size-requires c κs = search needs
+
+returns : tie.Need-returns
+returns c = (c .before .slot-size .ensures .0, slot-not _ _ (c .before .slot-size .ensures .0) (c .if1 .taken))
+
+sub-put : tie.Need-sub-put
+sub-put c = search needs
+
+part-put-start : tie.Need-part-put-start
+part-put-start c = search needs
+
+part-put-end : tie.Need-part-put-end
+part-put-end c = search needs
+
+put-requires : tie.Need-put-requires
+put-requires c κs = search needs
+
+standing-of-requires : tie.Need-standing-of-requires
+standing-of-requires c κs = search needs
+
+sub-write : tie.Need-sub-write
+sub-write c = omega (arith, size-some (c .before .before .before .before .before .before .before .before .before .before .args .s) (c .before .before .before .before .before .before .if2 .taken), c .before .before .before .before .before .before .before .before .slot-size .ensures .0, c .before .before .before .before .before .before .before .if1 .left)
+
+part-write-start : tie.Need-part-write-start
+part-write-start c = omega (arith, size-some (c .before .before .before .before .before .before .before .before .before .before .args .s) (c .before .before .before .before .before .before .if2 .taken), c .before .before .before .before .before .before .before .before .slot-size .ensures .0, c .before .before .before .before .before .before .before .if1 .left)
+
+part-write-end : tie.Need-part-write-end
+part-write-end c = search needs
+
+write-requires : tie.Need-write-requires
+write-requires c κs = search needs
+
+same-length : tie.Need-same-length
+same-length c = search needs
+
+returns-2 : tie.Need-returns-2
+returns-2 c = (c .before .before .before .before .before .before .before .before .before .before .before .before .slot-size .ensures .0, slot-told _ _ _ (c .before .before .before .before .before .before .before .before .before .before .if2 .taken) (c .before .before .before .before .before .before .before .before .before .before .before .before .slot-size .ensures .0) (c .before .before .before .before .before .before .before .before .before .before .before .if1 .left) (c .before .before .before .before .before .before .before .put .ensures .1) (c .before .before .before .before .standing-of .ensures) (c .before .before .write .ensures .1))
+
+returns-3 : tie.Need-returns-3
+returns-3 c = (c .before .before .slot-size .ensures .0, slot-none _ _ _ (c .if2 .left))
+
+pub write-slot-spec : {M : Type 1} → statement M
+write-slot-spec =
+    tie.close
+    (tie.spec
+    slot-size-requires
+    returns
+    sub-put
+    part-put-start
+    part-put-end
+    put-requires
+    standing-of-requires
+    sub-write
+    part-write-start
+    part-write-end
+    write-requires
+    same-length
+    returns-2
+    returns-3)

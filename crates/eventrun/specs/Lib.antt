@@ -1,0 +1,2 @@
+-- What a file of events gives.
+pub mod Runs

@@ -1,0 +1,3 @@
+-- Laws of one event on the record, which others cite.
+pub mod EventLaws
+pub mod SettingLaws

@@ -1,0 +1,2 @@
+-- The standing of a path.
+pub mod Standing

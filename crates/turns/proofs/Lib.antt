@@ -1,0 +1,5 @@
+-- Laws that the proofs of several functions cite.
+pub mod LenLaws
+pub mod PollLaws
+pub mod WorkLaws
+pub mod SlotLaws

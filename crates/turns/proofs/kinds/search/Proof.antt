@@ -1,0 +1,52 @@
+-- `turns::kinds::search` meets its contract: by whether a size is proposed.
+-- Assumes nothing.
+use Rattle.turns.proofs.LenLaws.{search-sent, search-none}
+use mathlib.Core.Path.{sym, _∙_}
+use borrow.Author.Needs.{needs}
+use Rattle.turns.proofs.kinds.search.Statement.{statement}
+use Rattle.turns.proofs.kinds.search.Tie as tie
+
+cast-seek-size : tie.Need-cast-seek-size
+cast-seek-size c = search needs
+
+seek-size-requires : tie.Need-seek-size-requires
+seek-size-requires c κs = search needs
+
+is-accepted-requires : tie.Need-is-accepted-requires
+is-accepted-requires c κs = search needs
+
+len-in-requires : tie.Need-len-in-requires
+len-in-requires c κs = search needs
+
+seek-send-requires : tie.Need-seek-send-requires
+seek-send-requires c κs = search needs
+
+turn-by-requires : tie.Need-turn-by-requires
+turn-by-requires c κs = search needs
+
+returns : tie.Need-returns
+returns c = search-sent (c .before .before .before .before .before .before .before .before .args .s) (c .before .before .before .before .before .before .before .before .args .e) (c .before .before .before .before .before .seek-size .ensures) (sym (c .before .before .before .before .is-accepted .ensures) ∙ c .before .before .before .if1 .taken) (c .before .before .len-in .ensures) (c .before .seek-send .ensures) (c .turn-by .ensures)
+
+reply-of-requires : tie.Need-reply-of-requires
+reply-of-requires c κs = search needs
+
+turned-requires : tie.Need-turned-requires
+turned-requires c κs = search needs
+
+returns-2 : tie.Need-returns-2
+returns-2 c = search-none (c .before .before .before .before .before .before .before .args .s) (c .before .before .before .before .before .before .before .args .e) (c .before .before .before .before .seek-size .ensures) (sym (c .before .before .before .is-accepted .ensures) ∙ c .before .before .if1 .left) (cc)
+
+pub search-spec : {M : Type 1} → statement M
+search-spec =
+    tie.close
+    (tie.spec
+    cast-seek-size
+    seek-size-requires
+    is-accepted-requires
+    len-in-requires
+    seek-send-requires
+    turn-by-requires
+    returns
+    reply-of-requires
+    turned-requires
+    returns-2)
