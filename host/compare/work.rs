@@ -62,9 +62,7 @@ pub fn compare() {
     for (pieces, piece) in parts {
         let (more, found) = shared(pieces, piece);
         tally.add(more);
-        for (what, count) in found {
-            *counts.entry(what).or_default() += count;
-        }
+        add(&mut counts, found);
     }
     print(&tally, &counts);
     println!(
@@ -103,12 +101,16 @@ fn shared(pieces: usize, piece: Piece) -> (Tally, Counts) {
         for thread in threads {
             let (more, found) = thread.join().expect("a thread ends");
             tally.add(more);
-            for (what, count) in found {
-                *counts.entry(what).or_default() += count;
-            }
+            add(&mut counts, found);
         }
         (tally, counts)
     })
+}
+
+fn add(counts: &mut Counts, more: Counts) {
+    for (what, count) in more {
+        *counts.entry(what).or_default() += count;
+    }
 }
 
 fn failure(filed: &Filed) -> impl FnOnce(String) -> Failure {
