@@ -1,4 +1,4 @@
--- One rival after the other; the margin; and the answer of the rules' choice.
+-- One rival after the other, and the margin.
 -- Assumes nothing.
 use Prim.Native.Nat.{ℕ, _+_, _<_, _≤_}
 use mathlib.Core.Path.{_≡_, refl, ap, sym, _∙_}
@@ -10,11 +10,8 @@ use lib.ListN.{length, take, drop, set, getD, length-set, drop-of-length-le}
 use lib.Seq.{take-all, take-suc-set, drop-cons}
 use lib.Ieee.{Float, nan, inf, fin, binary64, ofBits, le, lt, div}
 use Rattle.select.specs.declared.types.Rival.{Rival}
-use Rattle.rules.specs.Step.{rivalOf, rivalsAt, isMargin, choiceOf}
-use Rattle.rules.specs.declared.types.Event.{Event}
-use Rattle.rules.specs.declared.types.Record.{Record}
+use Rattle.rules.specs.Step.{rivalOf, rivalsAt, isMargin}
 use Rattle.rules.specs.declared.types.Slot.{Slot}
-use Rattle.choosing.specs.Choosing.{chosenOf}
 
 -- of the rivals of l those before i stand at the front of out
 pub record Filling (l : List Slot) (out : List Rival) (i : ℕ) : Type 0 where
@@ -60,13 +57,3 @@ margin-is nan = refl
 margin-is (inf true) = refl
 margin-is (inf false) = refl
 margin-is (fin s m e) = and-true _
-
--- what the rules' choice answers
-pub choice-reply : (r : Record) (e : Event) → choiceOf r e .reply ≡ chosenOf (r .slots) (e .span)
-unfolding choiceOf chosenOf
-choice-reply r e = refl
-
--- and that it leaves the record
-pub choice-next : (r : Record) (e : Event) → choiceOf r e .next ≡ r
-unfolding choiceOf
-choice-next r e = refl

@@ -1,3 +1,4 @@
 -- What the C functions reply.
 pub mod Entries
 pub mod Choice
+pub mod Events

@@ -19,6 +19,7 @@ use base::types::*;
 use seek::types::Ladder;
 
 pub mod choice;
+pub mod events;
 
 // A refusal number, 0 if accepted, and the value, 0 if refused.
 #[repr(C)]

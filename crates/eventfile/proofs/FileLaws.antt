@@ -1,8 +1,8 @@
 -- The whole file: a fuel of as many records as bytes are left is enough, so the events and the end unroll record by
 -- record.
 -- Assumes nothing.
-use Prim.Native.Nat.{ℕ, zero, suc, _+_, _<_, _≤_}
-use mathlib.Core.Path.{_≡_, refl, sym, ap, _∙_, subst}
+use Prim.Native.Nat.{ℕ, zero, suc, _+_, _≤_}
+use mathlib.Core.Path.{_≡_, refl, sym, _∙_}
 use mathlib.Core.List.{List, [], _∷_}
 use native.Mathlib.Omega.{arith}
 use lib.ListN.{length}
@@ -55,7 +55,8 @@ end-fuel (suc f) (suc g) l at h k =
 -- ---- record by record
 
 -- what comes from a place, by what stands there and what comes from the next one
-pub events-here : (f : ℕ) (l : List ℕ) (at : ℕ) → length l ≤ at + f → eventsFrom f l at ≡ eventsBy (parseOf l at) (eventsFrom f l)
+pub events-here : (f : ℕ) (l : List ℕ) (at : ℕ) → length l ≤ at + f
+    → eventsFrom f l at ≡ eventsBy (parseOf l at) (eventsFrom f l)
 unfolding eventsFrom
 events-here zero l at h = λ i. eventsBy (parse-end l at (omega (arith, h)) i) (eventsFrom zero l)
 events-here (suc f) l at h =

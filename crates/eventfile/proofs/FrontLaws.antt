@@ -1,8 +1,8 @@
 -- What bytes begin with, by the tests that a reader makes one after the other.
 -- Assumes nothing.
 use Prim.Native.Nat.{ℕ, _+_, _<_, _≤_}
-use mathlib.Core.Path.{_≡_, refl, sym, ap, _∙_}
-use mathlib.Core.Bool.{Bool, true, false, cond, _||_}
+use mathlib.Core.Path.{_≡_, refl, _∙_}
+use mathlib.Core.Bool.{Bool, true, false, _||_}
 use mathlib.Core.List.{List, [], _∷_}
 use native.Mathlib.Omega.{arith}
 use borrow.Author.Tests.{lt-ltb, le-ltb}
@@ -10,9 +10,8 @@ use lib.ListN.{length, getD}
 use Rattle.base.specs.declared.types.Refusal.the-variants as refusal
 use Rattle.base.proofs.Cases.{on-order}
 use Rattle.rules.specs.declared.types.Event.{Event}
-use Rattle.eventfile.specs.File.{stands, bytes, layoutOf, sizeOf, field, eventOf, isKindless, isStray, frontBy, frontOf}
+use Rattle.eventfile.specs.File.{bytes, layoutOf, sizeOf, field, eventOf, isKindless, isStray, frontBy, frontOf}
 use Rattle.eventfile.specs.declared.types.Layout.{Layout}
-use Rattle.eventfile.specs.declared.types.Parse.{Parse}
 use Rattle.eventfile.specs.declared.types.Parse.the-variants as parse
 
 -- the end of a list of tests, one of which is to hold

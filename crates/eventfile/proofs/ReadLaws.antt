@@ -18,8 +18,8 @@ use Rattle.base.proofs.Cases.{on-order, on-flag}
 use Rattle.octets.specs.Octets.{readAt}
 use Rattle.octets.proofs.Read.{read-more}
 use Rattle.rules.specs.declared.types.Event.{Event}
-use Rattle.eventfile.specs.File.{stands, bytes, nowAt, spanAt, idAt, lenAt, ackedAt, flagsAt, sizeOf, field, eventOf}
-use Rattle.eventfile.specs.File.{isKindless, isStray, frontBy, frontOf, from, parseOf}
+use Rattle.eventfile.specs.File.{stands, bytes, nowAt, spanAt, idAt, lenAt, ackedAt, flagsAt, sizeOf, field}
+use Rattle.eventfile.specs.File.{eventOf, isKindless, isStray, frontBy, frontOf, from, parseOf}
 use Rattle.eventfile.specs.declared.types.Parse.{Parse}
 use Rattle.eventfile.specs.declared.types.Parse.the-variants as parse
 use Rattle.eventfile.proofs.FrontLaws.{front-some, by-cut, by-kind, by-map, by-event}
@@ -54,7 +54,8 @@ front-reach (map ∷ l) = go (getD l 0 0)
 pub parse-part : (l : List ℕ) (at : ℕ) {p : Parse} → p ≡ frontOf (midOf at (length l - at) l) → from at p ≡ parseOf l at
 unfolding parseOf
 parse-part l at e =
-    let m : midOf at (length l - at) l ≡ drop at l = take-all (length l - at) (drop at l) (le-of-eq (length-drop at l)) in
+    let m : midOf at (length l - at) l ≡ drop at l =
+    take-all (length l - at) (drop at l) (le-of-eq (length-drop at l)) in
     (λ i. from at (e i)) ∙ (λ i. from at (frontOf (m i)))
 
 pub part-inside : (l : List ℕ) (at : ℕ) {e : Event} {size : ℕ} → at ≤ length l
@@ -84,7 +85,8 @@ parse-stands l at = go (frontOf (drop at l)) (front-reach (drop at l)) (length-d
   where
     go : (p : Parse) → Reach (drop at l) p → length (drop at l) ≡ length l - at → Stands l at (from at p)
     go parse.End r n = omega (arith, r, n)
-    go (parse.Event e size) r n = (omega (arith, r .0), omega (arith, r .0, r .1, n), omega (arith, r .0, r .1, r .2, n))
+    go (parse.Event e size) r n =
+        (omega (arith, r .0), omega (arith, r .0, r .1, n), omega (arith, r .0, r .1, r .2, n))
     go (parse.Refused why kind) r n = (omega (arith, r .0, n), λ g. omega (arith, r .0, r .1 g, n))
 
 -- ---- more bytes behind a record
@@ -127,11 +129,13 @@ front-more l t h =
     (cond (isStray map kind) (parse.Refused refusal.Map kind) (parse.Event (e i) (sizeOf map)))))
     ∙ front-some l (omega (arith, h))
 
-pub parse-more : (l t : List ℕ) (at : ℕ) → at + sizeOf (getD (drop at l) 0 0) ≤ length l → parseOf (l ++ t) at ≡ parseOf l at
+pub parse-more : (l t : List ℕ) (at : ℕ) → at + sizeOf (getD (drop at l) 0 0) ≤ length l
+    → parseOf (l ++ t) at ≡ parseOf l at
 unfolding parseOf
 parse-more l t at h =
     let a : drop at (l ++ t) ≡ drop at l ++ t = drop-append-le at l t (omega (arith, h)) in
-    let b : frontOf (drop at l ++ t) ≡ frontOf (drop at l) = front-more (drop at l) t (omega (arith, h, length-drop at l)) in
+    let b : frontOf (drop at l ++ t) ≡ frontOf (drop at l) =
+    front-more (drop at l) t (omega (arith, h, length-drop at l)) in
     λ i. from at ((ap frontOf a ∙ b) i)
 
 -- an event, or a refusal by 14 or 15, stays as it is

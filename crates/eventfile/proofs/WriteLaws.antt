@@ -1,6 +1,6 @@
 -- The writer's bytes are read back: one record with any bytes before it and behind it, and a whole file of records.
 -- Assumes nothing.
-use Prim.Native.Nat.{ℕ, _+_, _<_, _≤_, _^_}
+use Prim.Native.Nat.{ℕ, _+_, _≤_}
 use mathlib.Core.Path.{_≡_, refl, sym, ap, _∙_}
 use mathlib.Core.Bool.{Bool, true, false, cond}
 use mathlib.Core.List.{List, [], _∷_, _++_, map, append-assoc}
@@ -13,8 +13,9 @@ use Rattle.octets.proofs.Fill.{le-length, flat-length}
 use Rattle.rules.specs.declared.types.Event.{Event}
 use Rattle.rules.specs.declared.types.Settings.{Settings}
 use Rattle.eventfile.specs.File.{stands, bytes, spanAt, idAt, lenAt, ackedAt, flagsAt, sizeOf, field, eventOf}
-use Rattle.eventfile.specs.File.{frontOf, from, parseOf, fieldBytes, recordBytes, Held, Writable, AllWritable}
-use Rattle.eventfile.specs.File.{eventsFrom, eventsOf, Ending, Whole, endFrom, endOf, settingsOf, fileBytes}
+use Rattle.eventfile.specs.File.{settingsOf, frontOf, from, parseOf, eventsFrom, eventsOf, Whole, endFrom, endOf}
+use Rattle.eventfile.specs.Writer.{fieldBytes, recordBytes, Held, Writable, fileBytes, AllWritable, AllFit}
+use Rattle.eventfile.specs.Writer.{RecordsReadBack, FilesReadBack}
 use Rattle.eventfile.specs.declared.types.Parse.the-variants as parse
 use Rattle.eventfile.proofs.FrontLaws.{front-some, by-event}
 use Rattle.eventfile.proofs.ReadLaws.{parse-end}
@@ -127,18 +128,19 @@ event-back map e t w =
       flags = f₅ i;
     }
 
-front-back : (map : ℕ) (e : Event) (t : List ℕ) → Writable map e → frontOf (recordBytes map e ++ t) ≡ parse.Event e (sizeOf map)
+front-back : (map : ℕ) (e : Event) (t : List ℕ) → Writable map e
+    → frontOf (recordBytes map e ++ t) ≡ parse.Event e (sizeOf map)
 unfolding recordBytes
 front-back map e t w =
     let b = recordBytes map e ++ t in
-    let n : length b ≡ sizeOf map + length t = length-append (recordBytes map e) t ∙ (λ i. record-length map e i + length t) in
+    let n : length b ≡ sizeOf map + length t =
+    length-append (recordBytes map e) t ∙ (λ i. record-length map e i + length t) in
     sym (front-some b (omega (arith, n)))
     ∙ sym (by-event map (e .kind) b (omega (arith, n)) (w .kind) (w .bits))
     ∙ (λ i. parse.Event (event-back map e t w i) (sizeOf map))
 
 -- the record of an event is read back, with any bytes before it and behind it
-pub read-written : (map : ℕ) (e : Event) (p t : List ℕ) → Writable map e
-    → parseOf (p ++ (recordBytes map e ++ t)) (length p) ≡ parse.Event e (length p + sizeOf map)
+pub read-written : RecordsReadBack
 unfolding parseOf
 read-written map e p t w =
     λ i. from (length p) ((ap frontOf (drop-append-seam p (recordBytes map e ++ t)) ∙ front-back map e t w) i)
@@ -160,7 +162,8 @@ records-back f p (r ∷ rs) w h =
     let l = p ++ (b ++ t) in
     let e = read-written (r .0) (r .1) p t (w .0) in
     let a : (p ++ b) ++ t ≡ l = append-assoc p b t in
-    let n : length (p ++ b) ≡ length p + sizeOf (r .0) = length-append p b ∙ (λ i. length p + record-length (r .0) (r .1) i) in
+    let n : length (p ++ b) ≡ length p + sizeOf (r .0) =
+    length-append p b ∙ (λ i. length p + record-length (r .0) (r .1) i) in
     let k = records-back f (p ++ b) rs (w .1) (omega (arith, h, n, ap (λ (z : List ℕ). length z) a)) in (
       events-event f l (length p) h e ∙ (λ i. r .1 ∷ ((λ j. eventsFrom f (sym a j) (sym n j)) ∙ k .0) i),
       end-event f l (length p) h e ∙ (λ j. endFrom f (sym a j) (sym n j)) ∙ k .1,
@@ -172,10 +175,6 @@ four a b c d t =
     ∙ ap (λ (z : List ℕ). a ++ z)
     (append-assoc b (c ++ (d ++ [])) t
     ∙ ap (λ (z : List ℕ). b ++ z) (append-assoc c (d ++ []) t ∙ ap (λ (z : List ℕ). c ++ z) (append-assoc d [] t)))
-
--- each setting fits its bytes
-abbrev pub AllFit : Settings → Type 0
-AllFit t = (t .cap < 2 ^ 64) × (t .gap < 2 ^ 64) × (t .window < 2 ^ 64) × (t .horizon < 2 ^ 64)
 
 settings-back : (t : Settings) (l : List ℕ) → AllFit t
     → settingsOf (wordsOf (t .cap ∷ t .gap ∷ t .window ∷ t .horizon ∷ []) ++ l) ≡ t
@@ -200,8 +199,7 @@ settings-back t l h =
     λ i. record { cap = f₀ i; gap = f₁ i; window = f₂ i; horizon = f₃ i }
 
 -- a file that was written is read back: its settings, its events, and its end after a whole record
-pub file-back : (t : Settings) (rs : List (ℕ × Event)) → AllFit t → AllWritable rs
-    → (settingsOf (fileBytes t rs) ≡ t) × (eventsOf (fileBytes t rs) ≡ map (λ r. r .1) rs) × (endOf (fileBytes t rs) ≡ Whole)
+pub file-back : FilesReadBack
 unfolding fileBytes eventsOf endOf
 file-back t rs h w =
     let p = wordsOf (t .cap ∷ t .gap ∷ t .window ∷ t .horizon ∷ []) in

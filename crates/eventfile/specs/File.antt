@@ -1,13 +1,12 @@
 -- Event files (document 01, "Files and tail"): "four u64 settings, then records".
-use Prim.Native.Nat.{ℕ, zero, suc, _+_, _/_, _%_, _^_, _<_}
-use mathlib.Core.Path.{_≡_}
+use Prim.Native.Nat.{ℕ, zero, suc, _+_, _/_, _%_, _^_}
 use mathlib.Core.Bool.{Bool, false, not, cond, _&&_, _||_}
-use mathlib.Core.List.{List, [], _∷_, _++_}
+use mathlib.Core.List.{List, [], _∷_}
 use lib.Dec.{eqb, ltb}
 use lib.ListN.{length, drop, getD}
 use Rattle.base.specs.declared.types.Refusal.{Refusal}
 use Rattle.base.specs.declared.types.Refusal.the-variants as refusal
-use Rattle.octets.specs.Octets.{le, flat, wordsOf, readAt}
+use Rattle.octets.specs.Octets.{readAt}
 use Rattle.rules.specs.Event.{Kind, kindNumber, Open, Probe, Answer, Poll, Sample, Fold, Prove, Search, Judge, Data}
 use Rattle.rules.specs.Event.{Fresh, Thaw, Sweep, Close, Choose}
 use Rattle.rules.specs.declared.types.Event.{Event}
@@ -203,45 +202,3 @@ endFrom (suc f) l at = endBy (parseOf l at) (endFrom f l)
 -- how the records after the settings end
 unfoldable pub endOf : List ℕ → Ending
 endOf l = endFrom (length l) l 32
-
--- ---- the writer
-
--- a field, if its bit stands
-abbrev pub fieldBytes : ℕ → ℕ → ℕ → ℕ → List ℕ
-fieldBytes bit width map x = cond (stands bit map) (le width x) []
-
--- the record of an event with this map: "map, kind, slot (u8), then the fields whose bit stands"
-unfoldable pub recordBytes : ℕ → Event → List ℕ
-recordBytes map e =
-    map
-    ∷ e .kind
-    ∷ e .slot
-    ∷ fieldBytes 0 8 map (e .now)
-    ++ (fieldBytes 1 8 map (e .span)
-    ++ (fieldBytes 2 4 map (e .id)
-    ++ (fieldBytes 3 2 map (e .len) ++ (fieldBytes 4 2 map (e .acked) ++ fieldBytes 5 1 map (e .flags)))))
-
--- a field can be written: it fits its bytes, and is 0 where its bit does not stand
-abbrev pub Held : ℕ → ℕ → ℕ → ℕ → Type 0
-Held bit width map x = (x < 256 ^ width) × (stands bit map ≡ false → x ≡ 0)
-
--- an event can be written with this map: its kind is one of the fifteen, the map has no other bits than the kind, and
--- each field can be written
-pub record Writable (map : ℕ) (e : Event) : Type 0 where
-  pub kind : isKindless (e .kind) ≡ false
-  pub bits : isStray map (e .kind) ≡ false
-  pub now : Held 0 8 map (e .now)
-  pub span : Held 1 8 map (e .span)
-  pub id : Held 2 4 map (e .id)
-  pub len : Held 3 2 map (e .len)
-  pub acked : Held 4 2 map (e .acked)
-  pub flags : Held 5 1 map (e .flags)
-
--- a file: settings, then the records of some events, each with its map
-unfoldable pub fileBytes : Settings → List (ℕ × Event) → List ℕ
-fileBytes t rs = wordsOf (t .cap ∷ t .gap ∷ t .window ∷ t .horizon ∷ []) ++ flat (λ r. recordBytes (r .0) (r .1)) rs
-
--- each of these can be written with its map
-abbrev pub AllWritable : List (ℕ × Event) → Type 0
-AllWritable [] = Unit {0}
-AllWritable (r ∷ rs) = Writable (r .0) (r .1) × AllWritable rs

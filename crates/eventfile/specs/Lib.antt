@@ -1,2 +1,3 @@
--- Event files: settings, records, and the whole of a file.
+-- Event files: settings, records, the whole of a file; and the writer.
 pub mod File
+pub mod Writer

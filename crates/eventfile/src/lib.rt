@@ -1,13 +1,14 @@
 // Event files: settings and records, from lent bytes.
 ghost use mathlib.Core.Path.{_≡_};
-ghost use Rattle.eventfile.specs.File.{settingsOf, isKindless, isStray, frontOf, parseOf};
-use crate::fields::*;
+ghost use Rattle.eventfile.specs.File.{settingsOf, isStray, frontOf, parseOf};
+ghost use Rattle.eventfile.specs.Writer.{RecordsReadBack, FilesReadBack};
+use crate::places::*;
 use crate::types::*;
 use base::types::Refusal;
 use octets::get;
 use rules::types::Settings;
 
-mod fields;
+mod places;
 pub mod types;
 
 // The four settings that a file begins with; 0 for one that is not whole.
@@ -20,13 +21,6 @@ pub fn settings_from(s: &[u8]) -> Settings
         window: get(s, 16, 8),
         horizon: get(s, 24, 8),
     }
-}
-
-// Whether there is no such kind.
-fn is_kindless(kind: u8) -> bool
-    ensures { λ r. ⌜ r ≡ isKindless kind ⌝ }
-{
-    (kind < 1) | (15 < kind)
 }
 
 // Whether a bit of the map stands that the kind has not.
@@ -62,7 +56,7 @@ fn front(s: &[u8]) -> Parse
     if s.len() < size {
         return Parse::Refused(Refusal::Cut, kind);
     }
-    let kindless = is_kindless(kind);
+    let kindless = (kind < 1) | (15 < kind);
     let stray = is_stray(map, kind);
     if kindless {
         return Parse::Refused(Refusal::Kind, kind);
@@ -87,3 +81,8 @@ pub fn record_at(s: &[u8], at: usize) -> Parse
         Parse::Refused(why, kind) => Parse::Refused(why, kind),
     }
 }
+
+// The writer's law: what was written is read back, one record among any bytes and a whole file.
+pub fn reads_back()
+    ensures { λ r. ⌜ RecordsReadBack × FilesReadBack ⌝ }
+{}

@@ -68,14 +68,13 @@ pub fn write_answers(file: &[u8], rec: Record, out: &mut [u8])
                 return;
             }
             Parse::Event(e, next) => {
-                let stepped = peer::record::event(cur, e);
-                let reply = stepped.reply;
-                let words = [
-                    turns::reply::number_of(reply),
-                    turns::reply::value_of(reply),
-                ];
+                let turn = peer::record::event(cur, e);
+                let reply = turn.reply;
+                let number = turns::reply::number_of(reply);
+                let value = turns::reply::value_of(reply);
+                let words = [number, value];
                 octets::put_words(&mut out[at..], &words);
-                cur = stepped.next;
+                cur = turn.next;
                 from = next;
                 at += 16;
             }

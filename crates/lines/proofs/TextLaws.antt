@@ -9,7 +9,7 @@ use native.Mathlib.Numerals.{add-one}
 use native.Mathlib.Nat.{pow-suc, le-of-eq}
 use borrow.Rule.Slice.PartMut.{midOf, putMid}
 use borrow.Author.Tests.{ne-eqb, le-leb, lt-leb, lt-ltb, le-ltb}
-use lib.Dec.{eqb, leb, ltb}
+use lib.Dec.{eqb}
 use lib.ListN.{length, take, drop, set, length-append, length-set, length-drop, drop-of-length-le}
 use lib.Seq.{take-all, take-set-lt, drop-set-lt, drop-cons, drop-drop, set-split, getD-set-same, length-take-le}
 use Rattle.base.proofs.Cases.{on-order, on-flag}
@@ -181,7 +181,8 @@ cell-few x after = omega (arith, cell-length x after, decimal-length x, tenths-f
   where
     tenths-few : (f n : ℕ) → tenths f n ≤ f
     tenths-few zero n = omega arith
-    tenths-few (suc f) n = on-flag (eqb n 0) (λ e. rw e (omega arith)) (λ e. rw e (omega (arith, tenths-few f (n / 10))))
+    tenths-few (suc f) n =
+        on-flag (eqb n 0) (λ e. rw e (omega arith)) (λ e. rw e (omega (arith, tenths-few f (n / 10))))
 
 -- the bytes of four cells, one after the other
 four-length : (a b c d : List ℕ) → length (((a ++ b) ++ c) ++ d) ≡ length a + length b + length c + length d
@@ -226,8 +227,8 @@ pub record Laid (b l : List ℕ) (at : ℕ) (m : List ℕ) (r : ℕ) (l′ : Lis
   pub is : m ≡ over b (midOf at (length l - at) l)
   pub into : l′ ≡ putMid at (length l - at) l m
 
-laid : {l₀ p l m l′ : List ℕ} {at r : ℕ} (b : List ℕ) → Filled l₀ p l at → at + length b ≤ length l₀ → Laid b l at m r l′
-    → Filled l₀ (p ++ b) l′ (at + r)
+laid : {l₀ p l m l′ : List ℕ} {at r : ℕ} (b : List ℕ) → Filled l₀ p l at → at + length b ≤ length l₀
+    → Laid b l at m r l′ → Filled l₀ (p ++ b) l′ (at + r)
 laid {l₀} {p} {l} {m} {l′} {at} {r} b f h d =
     let n : length (midOf at (length l - at) l) ≡ length l₀ - at =
     ap (λ (z : List ℕ). length z) (take-all (length l - at) (drop at l) (le-of-eq (length-drop at l)))

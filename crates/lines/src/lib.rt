@@ -21,7 +21,9 @@ fn places(x: u64) -> usize
 // Writes a number in decimal and one byte after it to the front of `out`, or nothing where they do not fit; gives the
 // bytes written.
 fn put_number(out: &mut [u8], x: u64, after: u8) -> usize
-    ensures { λ r. ⌜ (r ≡ written (cellOf x after) (now (out .entry))) × (r ≤ length (now (out .entry))) × (now (out .exit) ≡ over (cellOf x after) (now (out .entry))) ⌝ }
+    ensures { λ r. ⌜ (r ≡ written (cellOf x after) (now (out .entry)))
+        × (r ≤ length (now (out .entry)))
+        × (now (out .exit) ≡ over (cellOf x after) (now (out .entry))) ⌝ }
 {
     let k = places(x);
     if out.len() <= k {
@@ -47,7 +49,9 @@ fn line_len(number: u64, kind: u64, refusal: u64, value: u64) -> usize
 
 // Writes a line to the front of `out`, or nothing where it does not fit; gives the bytes written.
 pub fn put_line(out: &mut [u8], number: u64, kind: u64, refusal: u64, value: u64) -> usize
-    ensures { λ r. ⌜ (r ≡ written (lineOf number kind refusal value) (now (out .entry))) × (r ≤ 84) × (now (out .exit) ≡ over (lineOf number kind refusal value) (now (out .entry))) ⌝ }
+    ensures { λ r. ⌜ (r ≡ written (lineOf number kind refusal value) (now (out .entry)))
+        × (r ≤ 84)
+        × (now (out .exit) ≡ over (lineOf number kind refusal value) (now (out .entry))) ⌝ }
 {
     if out.len() < line_len(number, kind, refusal, value) {
         return 0;

@@ -87,7 +87,8 @@ pub read-more : (at w : ℕ) (l t : List ℕ) → at + w ≤ length l → readAt
 unfolding readAt
 read-more at w l t h =
     let a : drop at (l ++ t) ≡ drop at l ++ t = drop-append-le at l t (omega arith) in
-    let b : take w (drop at l ++ t) ≡ take w (drop at l) = take-append-le w (drop at l) t (omega (arith, length-drop at l)) in
+    let b : take w (drop at l ++ t) ≡ take w (drop at l) =
+    take-append-le w (drop at l) t (omega (arith, length-drop at l)) in
     let c : leb (at + w) (length (l ++ t)) ≡ leb (at + w) (length l) =
     le-leb (at + w) (length (l ++ t)) (omega (arith, length-append l t)) ∙ sym (le-leb (at + w) (length l) h) in
     λ j. cond (leb w 8 && c j) (leNumber ((ap (take w) a ∙ b) j)) 0
@@ -108,5 +109,6 @@ read-back at w x p t e h k =
     let n : length (le w x) ≡ w = le-length w x in
     let m : at + w ≤ length (p ++ (le w x ++ t)) =
     omega (arith, e, n, length-append p (le w x ++ t), length-append (le w x) t) in
-    let b : take w (drop at (p ++ (le w x ++ t))) ≡ le w x = ap (take w) (drop-at p (le w x ++ t) at e) ∙ take-at (le w x) t w n in
+    let b : take w (drop at (p ++ (le w x ++ t))) ≡ le w x =
+    ap (take w) (drop-at p (le w x ++ t) at e) ∙ take-at (le w x) t w n in
     rw (le-leb w 8 h, le-leb (at + w) (length (p ++ (le w x ++ t))) m) (ap leNumber b ∙ le-number w x k)

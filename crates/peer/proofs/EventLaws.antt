@@ -2,15 +2,15 @@
 -- the eight slots by themselves and calls `on_slot` or `chosen` has what `event` gives, by these laws.
 -- Assumes nothing.
 use Prim.Native.Nat.{ℕ, _<_, _≤_}
-use mathlib.Core.Path.{_≡_, refl, ap, sym, _∙_}
-use mathlib.Core.Bool.{true, false}
+use mathlib.Core.Path.{_≡_, ap, sym, _∙_}
+use mathlib.Core.Bool.{false}
 use mathlib.Core.List.{List}
 use native.Mathlib.Omega.{arith}
 use lib.Dec.{eqb}
-use lib.ListN.{length, getD, set, List·getD-eq-default}
+use lib.ListN.{length, getD, List·getD-eq-default}
 use lib.Seq.{set-out, drop-cons}
 use Rattle.rules.specs.Rules.{emptySlot, onSlot}
-use Rattle.rules.specs.Step.{choiceOf, slotAt, put, step}
+use Rattle.rules.specs.Step.{choiceOf, put, step}
 use Rattle.rules.specs.declared.types.Event.{Event}
 use Rattle.rules.specs.declared.types.Slot.{Slot}
 use Rattle.rules.specs.declared.types.Record.{Record}

@@ -1,6 +1,6 @@
 -- Four settings that are below 2^62.
 -- Assumes nothing.
-use Prim.Native.Nat.{ℕ, _^_}
+use Prim.Native.Nat.{ℕ}
 use mathlib.Core.Path.{_≡_, refl}
 use mathlib.Core.Bool.{Bool, true, false, not, _&&_, cond, Bool·not-not}
 use lib.Dec.{ltb}

@@ -70,10 +70,10 @@ pub fn event(rec: Record, e: Event) -> Stepped
     let t = turns::slot::on_slot(settings, s, e);
     let slot = t.slot;
     let reply = t.reply;
-    let mut next = rec;
-    next.slots[i] = slot;
+    let mut after = rec;
+    after.slots[i] = slot;
     Stepped {
-        next: next,
+        next: after,
         reply: reply,
     }
 }

@@ -1,5 +1,3 @@
 -- Laws that the proofs of several functions cite.
-pub mod LenLaws
-pub mod PollLaws
 pub mod WorkLaws
 pub mod SlotLaws

@@ -1,27 +1,7 @@
-// The record's answers: from a path's, and as document 01's number and value.
+// The record's answers as document 01's number and value.
 ghost use mathlib.Core.Path.{_≡_};
 ghost use Rattle.rules.specs.Event.{numberOf, valueOf};
-ghost use Rattle.rules.specs.Rules.{replyOf};
-use live::types::Answer;
 use rules::types::Reply;
-
-// The record's answer for a path's.
-pub fn reply_of(a: Answer) -> Reply
-    ensures { λ r. ⌜ r ≡ replyOf a ⌝ }
-{
-    match a {
-        Answer::Done => Reply::Nothing,
-        Answer::Id(id) => Reply::Id(id),
-        Answer::InTime(s) => Reply::InTime,
-        Answer::Late(s) => Reply::Late,
-        Answer::Idle => Reply::Nothing,
-        Answer::Lapsed(miss) => Reply::Nothing,
-        Answer::Len(n) => Reply::Nothing,
-        Answer::Time(t) => Reply::Nothing,
-        Answer::Flag(on) => if on { Reply::Lost } else { Reply::Waits },
-        Answer::Refused(why) => Reply::Refused(why),
-    }
-}
 
 // The refusal number of an answer, 0 if accepted.
 pub fn number_of(reply: Reply) -> u64

@@ -6,6 +6,10 @@ use crate::kinds::*;
 use crate::refuse::*;
 use base::types::Refusal;
 use rules::types::*;
+use works::probes::*;
+use works::sizes::*;
+use works::times::*;
+use works::turned::turned;
 
 // The work of the event's kind, but for an open.
 fn work(t: Settings, s: Slot, e: Event) -> Turn

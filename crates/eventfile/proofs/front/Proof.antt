@@ -22,30 +22,39 @@ returns-2 : tie.Need-returns-2
 returns-2 c =
     let d = c .before in
     front-cut
-    (head (d .before .before .before .if1 .left) (d .before .before .byte-at .ensures) (d .before .byte-at2 .ensures) (d .laid-out .ensures))
+    (head
+    (d .before .before .before .if1 .left)
+    (d .before .before .byte-at .ensures)
+    (d .before .byte-at2 .ensures)
+    (d .laid-out .ensures))
     (c .if2 .taken)
-
-is-kindless-requires : tie.Need-is-kindless-requires
-is-kindless-requires c κs = search needs
 
 is-stray-requires : tie.Need-is-stray-requires
 is-stray-requires c κs = search needs
 
 returns-3 : tie.Need-returns-3
 returns-3 c =
-    let d = c .before .before .before .before in
+    let d = c .before .before .before in
     front-kind
-    (head (d .before .before .before .if1 .left) (d .before .before .byte-at .ensures) (d .before .byte-at2 .ensures) (d .laid-out .ensures))
-    (c .before .before .before .if2 .left)
-    (sym (c .before .before .is-kindless .ensures) ∙ c .if3 .taken)
+    (head
+    (d .before .before .before .if1 .left)
+    (d .before .before .byte-at .ensures)
+    (d .before .byte-at2 .ensures)
+    (d .laid-out .ensures))
+    (c .before .before .if2 .left)
+    (c .if3 .taken)
 
 returns-4 : tie.Need-returns-4
 returns-4 c =
-    let d = c .before .before .before .before .before in
+    let d = c .before .before .before .before in
     front-map
-    (head (d .before .before .before .if1 .left) (d .before .before .byte-at .ensures) (d .before .byte-at2 .ensures) (d .laid-out .ensures))
-    (c .before .before .before .before .if2 .left)
-    (sym (c .before .before .before .is-kindless .ensures) ∙ c .before .if3 .left)
+    (head
+    (d .before .before .before .if1 .left)
+    (d .before .before .byte-at .ensures)
+    (d .before .byte-at2 .ensures)
+    (d .laid-out .ensures))
+    (c .before .before .before .if2 .left)
+    (c .before .if3 .left)
     (sym (c .before .before .is-stray .ensures) ∙ c .if4 .taken)
 
 event-of-requires : tie.Need-event-of-requires
@@ -53,11 +62,15 @@ event-of-requires c κs = search needs
 
 returns-5 : tie.Need-returns-5
 returns-5 c =
-    let d = c .before .before .before .before .before .before in
+    let d = c .before .before .before .before .before in
     front-event
-    (head (d .before .before .before .if1 .left) (d .before .before .byte-at .ensures) (d .before .byte-at2 .ensures) (d .laid-out .ensures))
-    (c .before .before .before .before .before .if2 .left)
-    (sym (c .before .before .before .before .is-kindless .ensures) ∙ c .before .before .if3 .left)
+    (head
+    (d .before .before .before .if1 .left)
+    (d .before .before .byte-at .ensures)
+    (d .before .byte-at2 .ensures)
+    (d .laid-out .ensures))
+    (c .before .before .before .before .if2 .left)
+    (c .before .before .if3 .left)
     (sym (c .before .before .before .is-stray .ensures) ∙ c .before .if4 .left)
     (c .event-of .ensures)
 
@@ -70,7 +83,6 @@ front-spec =
     byte-at-requires-2
     laid-out-requires
     returns-2
-    is-kindless-requires
     is-stray-requires
     returns-3
     returns-4

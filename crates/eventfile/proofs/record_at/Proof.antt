@@ -33,8 +33,8 @@ add-t14 : tie.Need-add-t14
 add-t14 c =
     let a = c .before .before .before .before .before .before .before .args in
     let h = c .before .before .before .before .before .if1 .left in
-    let p = part-inside (now (a .s)) (a .at) (omega (arith, h)) (sym (c .before .found .given .1) ∙ c .before .before .before .front .ensures) in
-    omega (arith, p)
+    let e = sym (c .before .found .given .1) ∙ c .before .before .before .front .ensures in
+    omega (arith, part-inside (now (a .s)) (a .at) (omega (arith, h)) e)
 
 enum-known-found-2 : tie.Need-enum-known-found-2
 enum-known-found-2 c = search needs

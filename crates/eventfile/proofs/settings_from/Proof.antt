@@ -17,7 +17,13 @@ get-requires-4 : tie.Need-get-requires-4
 get-requires-4 c κs = search needs
 
 returns : tie.Need-returns
-returns c = rw (c .get4 .ensures .0, c .before .get3 .ensures .0, c .before .before .get2 .ensures .0, c .before .before .before .get .ensures .0)
+returns c =
+    rw (
+      c .get4 .ensures .0,
+      c .before .get3 .ensures .0,
+      c .before .before .get2 .ensures .0,
+      c .before .before .before .get .ensures .0,
+    )
 
 pub settings-from-spec : {M : Type 1} → statement M
 settings-from-spec =

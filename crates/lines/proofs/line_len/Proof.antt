@@ -2,7 +2,7 @@
 -- Assumes nothing.
 use borrow.Author.Needs.{needs}
 use native.Mathlib.Omega.{arith}
-use Rattle.lines.proofs.TextLaws.{line-length, line-few}
+use Rattle.lines.proofs.TextLaws.{line-length}
 use Rattle.lines.proofs.line_len.Statement.{statement}
 use Rattle.lines.proofs.line_len.Tie as tie
 

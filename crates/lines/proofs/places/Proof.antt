@@ -22,10 +22,10 @@ loop-less : tie.Need-loop-less Inv-loop μ-loop
 loop-less c = omega arith
 
 loop-again : tie.Need-loop-again Inv-loop μ-loop
-loop-again c = counted-next (c .before .loop .inv) (c .loop-test .taken)
+loop-again c = counted-next (c .before .loop .inv) (omega (arith, c .loop-test .taken))
 
 returns : tie.Need-returns Inv-loop μ-loop
-returns c = (counted-end (c .before .loop .inv) (c .loop-test .left), c .before .loop .inv .few)
+returns c = (counted-end (c .before .loop .inv) (omega (arith, c .loop-test .left)), c .before .loop .inv .few)
 
 pub places-spec : {M : Type 1} → statement M
 places-spec = tie.close (tie.spec Inv-loop μ-loop loop-holds add-k loop-less loop-again returns)

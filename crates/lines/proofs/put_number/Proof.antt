@@ -8,7 +8,8 @@ use Prim.Native.Nat.{zero-le, _≤_, _<_}
 use denote.Ref.{now}
 use lib.ListN.{length}
 use Rattle.lines.specs.Text.{cellOf}
-use Rattle.lines.proofs.TextLaws.{Spelt, spelt-start, spelt-next, spelt-end, cell-length, all-written, none-written}
+use Rattle.lines.proofs.TextLaws.{Spelt, spelt-start, spelt-next, spelt-end}
+use Rattle.lines.proofs.TextLaws.{cell-length, all-written, none-written}
 use Rattle.lines.proofs.put_number.Statement.{statement}
 use Rattle.lines.proofs.put_number.Tie as tie
 

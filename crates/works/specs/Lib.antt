@@ -1,0 +1,2 @@
+-- The parts of the work of a kind.
+pub mod Works
