@@ -1,0 +1,64 @@
+-- `pathrun::run::stop` meets its contract.
+-- Assumes nothing.
+use borrow.Author.Needs.{needs}
+use borrow.Author.Tests.{ne-eqb}
+use Rattle.pathrun.proofs.StopLaws.{waits-end, waits-event, waits-cut, stop-rest, stop-over}
+use Rattle.pathrun.proofs.run.stop.Statement.{statement}
+use Rattle.pathrun.proofs.run.stop.Tie as tie
+
+ran-requires : tie.Need-ran-requires
+ran-requires c κs = search needs
+
+enum-told : tie.Need-enum-told
+enum-told c = search needs
+
+enum-known-x : tie.Need-enum-known-x
+enum-known-x c = search needs
+
+enum-known-x-2 : tie.Need-enum-known-x-2
+enum-known-x-2 c = search needs
+
+number-requires : tie.Need-number-requires
+number-requires c κs = search needs
+
+returns : tie.Need-returns
+returns c = let a = c .before .before .before .before .before .before .before .args in stop-rest (a .settings) _ (a .number) (a .x) (a .place) _ (a .at) (waits-cut (c .before .before .before .x2 .given .1) (c .before .number .ensures) (c .if1 .taken)) (c .before .before .before .before .before .ran .ensures)
+
+cast-lay : tie.Need-cast-lay
+cast-lay c = search needs
+
+lay-requires : tie.Need-lay-requires
+lay-requires c κs = search needs
+
+ran-requires-2 : tie.Need-ran-requires-2
+ran-requires-2 c κs = search needs
+
+returns-2 : tie.Need-returns-2
+returns-2 c = let a = c .before .before .before .before .args in stop-rest (a .settings) _ (a .number) (a .x) (a .place) _ (a .at) (waits-end (c .enum-told .given .1)) (c .before .before .ran .ensures)
+
+returns-3 : tie.Need-returns-3
+returns-3 c = let a = c .before .before .before .before .before .args in stop-rest (a .settings) _ (a .number) (a .x) (a .place) _ (a .at) (waits-event (c .before .x .given .1)) (c .before .before .before .ran .ensures)
+
+same-length : tie.Need-same-length
+same-length c = search needs
+
+returns-4 : tie.Need-returns-4
+returns-4 c = let a = c .before .before .before .before .before .before .before .before .before .before .before .before .args in stop-over (a .settings) _ (a .number) (a .place) _ (a .at) (c .before .before .before .before .before .before .before .before .x2 .given .1) (c .before .before .before .before .before .before .number .ensures) (ne-eqb _ _ (c .before .before .before .before .before .if1 .left)) (c .before .before .before .lay .ensures) (c .ran2 .ensures)
+
+pub stop-spec : {M : Type 1} → statement M
+stop-spec =
+    tie.close
+    (tie.spec
+    ran-requires
+    enum-told
+    enum-known-x
+    enum-known-x-2
+    number-requires
+    returns
+    cast-lay
+    lay-requires
+    ran-requires-2
+    returns-2
+    returns-3
+    same-length
+    returns-4)

@@ -1,0 +1,15 @@
+-- `pathrun::session::begin` meets its contract.
+-- Assumes nothing.
+use borrow.Author.Needs.{needs}
+use Rattle.pathrun.proofs.StopLaws.{begin-is}
+use Rattle.pathrun.proofs.session.begin.Statement.{statement}
+use Rattle.pathrun.proofs.session.begin.Tie as tie
+
+new-requires : tie.Need-new-requires
+new-requires c κs = search needs
+
+returns : tie.Need-returns
+returns c = begin-is (c .before .new .ensures)
+
+pub begin-spec : {M : Type 1} → statement M
+begin-spec = tie.close (tie.spec new-requires returns)

@@ -1,0 +1,5 @@
+-- All output for all input, a session over portions of the input, and the claim that joins them.
+pub mod Lines
+pub mod Sessions
+pub mod Portions
+pub mod Whole

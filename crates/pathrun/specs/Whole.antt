@@ -1,0 +1,30 @@
+-- A whole file in lent bytes: its lines, and demand 3 of its events.
+use Prim.Native.Nat.{ℕ, _/_}
+use mathlib.Core.Bool.{Bool, true, cond}
+use mathlib.Core.List.{List, []}
+use mathlib.Core.Path.{_≡_}
+use lib.Dec.{ltb}
+use lib.ListN.{length}
+use Rattle.base.specs.declared.types.Refusal.the-variants as refusal
+use Rattle.rules.specs.Step.{allowed}
+use Rattle.rules.specs.Demand3.{FewDraws, Demand3}
+use Rattle.eventfile.specs.File.{settingsOf, eventsOf}
+use Rattle.pathrun.specs.Lines.{linesOf}
+use Rattle.pathrun.specs.Sessions.{linesIn}
+use Rattle.pathrun.specs.declared.types.Written.{Written}
+use Rattle.pathrun.specs.declared.types.Written.the-variants as written
+
+-- there is room for a line of 84 bytes for each three bytes of the file, which is a record at least, and one more
+abbrev pub hasRoom : List ℕ → List ℕ → Bool
+hasRoom l out = ltb (length l / 3) (linesIn out)
+
+-- the lines of the file and how many bytes they are; "16: fewer lent bytes", with nothing written
+abbrev pub fileText : List ℕ → List ℕ → List ℕ
+fileText l out = cond (hasRoom l out) (linesOf l) []
+
+abbrev pub fileReply : List ℕ → List ℕ → Written
+fileReply l out = cond (hasRoom l out) (written.Bytes (length (linesOf l))) (written.Refused refusal.Lent)
+
+-- `linesOf` has the lines of `trace` from a fresh record with these settings, over these events: demand 3 holds of them
+abbrev pub FileDemand : List ℕ → Type 0
+FileDemand l = allowed (settingsOf l) ≡ true → FewDraws (settingsOf l) (eventsOf l) → Demand3 (settingsOf l) (eventsOf l)

@@ -1,0 +1,28 @@
+// A whole file in lent bytes: the claim about every list of events reaches the code.
+ghost use mathlib.Core.Path.{_≡_};
+ghost use Rattle.octets.specs.Octets.{over};
+ghost use Rattle.pathrun.specs.Whole.{fileText, fileReply, FileDemand};
+use crate::session::begin;
+use crate::session::finish;
+use crate::session::step;
+use crate::types::*;
+use base::types::Refusal;
+use live::types::Liveness;
+use rules::types::*;
+
+// Writes the lines of a file to the front of `out`, or nothing where `out` has no room for a line of 84 bytes for each
+// three bytes of the file and one more; demand 3 holds of the file's events and these answers.
+pub fn lines_of_file(s: &[u8], out: &mut [u8]) -> Written
+    ensures { λ r. ⌜ (r ≡ fileReply (now (s .entry)) (now (out .entry))) × (now (out .exit) ≡ over (fileText (now (s .entry)) (now (out .entry))) (now (out .entry))) × FileDemand (now (s .entry)) ⌝ }
+{
+    if out.len() / 84 <= s.len() / 3 {
+        return Written::Refused(Refusal::Lent);
+    }
+    let session = begin();
+    let r = step(session, s, out);
+    let left = r.session;
+    let p = r.place;
+    let w = r.wrote;
+    let k = finish(left, &s[p..], &mut out[w..]);
+    Written::Bytes(w + k)
+}
