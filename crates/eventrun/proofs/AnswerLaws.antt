@@ -10,7 +10,7 @@ use Rattle.octets.specs.Octets.{le, flat, wordsOf, over}
 use Rattle.octets.proofs.Fill.{Filled, nothing, fill, filled-over, filled-length, flat-length, le-length}
 use Rattle.base.specs.declared.types.Refusal.{Refusal}
 use Rattle.rules.specs.Event.{numberOf, valueOf}
-use Rattle.rules.specs.Step.{Entry, step, trace}
+use Rattle.rules.specs.Step.{step, trace}
 use Rattle.rules.specs.declared.types.Event.{Event}
 use Rattle.rules.specs.declared.types.Record.{Record}
 use Rattle.rules.specs.declared.types.Stepped.{Stepped}
@@ -70,13 +70,15 @@ module _ {l : List ℕ} {r₀ : Record} {l₀ out : List ℕ} {r : Record} {from
     pub answering-end : {p : Parse} → p ≡ parseOf l from → p ≡ parse.End → out ≡ over (answersIn l r₀ (length l₀)) l₀
     answering-end {p} a b =
         let e = events-end (length l) l from enough (sym a ∙ b) in
-        ended ((λ i. flat entryBytes (take ((length l₀ - at) / 16) (trace r (e i)))) ∙ take-none ((length l₀ - at) / 16))
+        ended
+        ((λ i. flat entryBytes (take ((length l₀ - at) / 16) (trace r (e i)))) ∙ take-none ((length l₀ - at) / 16))
 
     pub answering-refused : {p : Parse} {why : Refusal} {kind : ℕ} → p ≡ parseOf l from → p ≡ parse.Refused why kind
         → out ≡ over (answersIn l r₀ (length l₀)) l₀
     answering-refused {p} a b =
         let e = events-refused (length l) l from enough (sym a ∙ b) in
-        ended ((λ i. flat entryBytes (take ((length l₀ - at) / 16) (trace r (e i)))) ∙ take-none ((length l₀ - at) / 16))
+        ended
+        ((λ i. flat entryBytes (take ((length l₀ - at) / 16) (trace r (e i)))) ∙ take-none ((length l₀ - at) / 16))
 
     pub answering-full : length out - at < 16 → out ≡ over (answersIn l r₀ (length l₀)) l₀
     unfolding flat
@@ -84,7 +86,8 @@ module _ {l : List ℕ} {r₀ : Record} {l₀ out : List ℕ} {r : Record} {from
         let z : (length l₀ - at) / 16 ≡ 0 = omega (arith, filled-length (s .filled)) in
         ended (λ i. flat entryBytes (take (z i) (trace r (eventsFrom (length l) l from))))
 
-    pub answering-next : 16 ≤ length out - at → {p : Parse} {e : Event} {next : ℕ} {o : Stepped} {number value : ℕ} {m : List ℕ}
+    pub answering-next : 16 ≤ length out - at
+        → {p : Parse} {e : Event} {next : ℕ} {o : Stepped} {number value : ℕ} {m : List ℕ}
         → p ≡ parseOf l from → p ≡ parse.Event e next → o ≡ step r e → number ≡ numberOf (o .reply)
         → value ≡ valueOf (o .reply) → m ≡ over (wordsOf (number ∷ value ∷ [])) (midOf at (length out - at) out)
         → Answering l r₀ l₀ (putMid at (length out - at) out m) (o .next) next (at + 16)
@@ -96,7 +99,8 @@ module _ {l : List ℕ} {r₀ : Record} {l₀ out : List ℕ} {r : Record} {from
         let k : (length l₀ - at) / 16 ≡ suc ((length l₀ - (at + 16)) / 16) = omega (arith, n, h) in
         let v = events-event (length l) l from enough (sym a ∙ b) in
         let es = eventsFrom (length l) l next in
-        let more : Record → List ℕ = λ (q : Record). flat entryBytes (take ((length l₀ - (at + 16)) / 16) (trace q es)) in
+        let more : Record → List ℕ =
+        λ (q : Record). flat entryBytes (take ((length l₀ - (at + 16)) / 16) (trace q es)) in
         let y : wordsOf (numberOf (step r e .reply) ∷ valueOf (step r e .reply) ∷ []) ≡ w =
         (λ i. wordsOf (numberOf (sym c i .reply) ∷ valueOf (sym c i .reply) ∷ []))
         ∙ (λ i. wordsOf (sym f i ∷ sym g i ∷ [])) in

@@ -22,12 +22,11 @@ use Rattle.rules.specs.declared.types.Stepped.{Stepped}
 use Rattle.rules.specs.declared.types.Reply.the-variants as reply
 use Rattle.rules.specs.declared.types.Event.{Event}
 use Rattle.rules.specs.declared.types.Record.{Record}
-use Rattle.rules.specs.declared.types.Slot.{Slot}
 use Rattle.standing.specs.Standing.{fit}
-use Rattle.standing.specs.declared.types.Written.{Written}
 use Rattle.standing.specs.declared.types.Written.the-variants as written
 use Rattle.eventfile.specs.File.{settingsOf, eventsOf, endOf}
-use Rattle.eventrun.specs.Runs.{entryBytes, standingsOf, outputOf, verdictOf, endedBy, ranOf, outBy, outOf, scanOf, stopped, planOf}
+use Rattle.eventrun.specs.Runs.{entryBytes, standingsOf, outputOf, verdictOf, endedBy, ranOf, outBy, outOf}
+use Rattle.eventrun.specs.Runs.{scanOf, stopped, planOf}
 use Rattle.eventrun.specs.declared.types.Verdict.{Verdict}
 use Rattle.eventrun.specs.declared.types.Verdict.the-variants as verdict
 use Rattle.eventrun.specs.declared.types.Scan.{Scan}
@@ -42,7 +41,8 @@ plan-by : (file : List ℕ) {a b : Bool} → ltb (length file) 32 ≡ a → allo
 unfolding planOf
 plan-by file p q =
     λ i. cond (p i) (stopped (freshRecord (settingsOf file)) refusal.Cut)
-    (cond (q i) (scanOf file (freshRecord (settingsOf file))) (stopped (freshRecord (settingsOf file)) refusal.Duration))
+    (cond (q i) (scanOf file (freshRecord (settingsOf file)))
+    (stopped (freshRecord (settingsOf file)) refusal.Duration))
 
 module _ (file : List ℕ) {t : Settings} {o : Stepped} (a : t ≡ settingsOf file) (e : o ≡ recordOf t) where
   made : o ≡ recordOf (settingsOf file)
@@ -59,8 +59,12 @@ module _ (file : List ℕ) {t : Settings} {o : Stepped} (a : t ≡ settingsOf fi
   module _ (h : 32 ≤ length file) {n : ℕ} (k : n ≡ numberOf (o .reply)) where
     number-by : (b : Bool) → allowed (settingsOf file) ≡ b → n ≡ cond b 0 6
     unfolding recordOf
-    number-by true q = k ∙ ap (λ (s : Stepped). numberOf (s .reply)) made ∙ (λ i. numberOf (cond (q i) reply.Nothing (reply.Refused refusal.Duration)))
-    number-by false q = k ∙ ap (λ (s : Stepped). numberOf (s .reply)) made ∙ (λ i. numberOf (cond (q i) reply.Nothing (reply.Refused refusal.Duration)))
+    number-by true q =
+        k ∙ ap (λ (s : Stepped). numberOf (s .reply)) made
+        ∙ (λ i. numberOf (cond (q i) reply.Nothing (reply.Refused refusal.Duration)))
+    number-by false q =
+        k ∙ ap (λ (s : Stepped). numberOf (s .reply)) made
+        ∙ (λ i. numberOf (cond (q i) reply.Nothing (reply.Refused refusal.Duration)))
 
     -- a record is made
     pub plan-scan : n ≡ 0 → {r : Scan} → r ≡ scanOf file (o .next) → r ≡ planOf file
@@ -82,8 +86,14 @@ unfolding ranOf planOf scanOf
 ran-by file lent = go (ltb (length file) 32) (allowed (settingsOf file))
   where
     go : (a b : Bool)
-        → cond a (written.Refused refusal.Cut) (cond b (endedBy (verdictOf (endOf file)) (fit (outputOf file) lent)) (written.Refused refusal.Duration))
-        ≡ endedBy (cond a (stopped (freshRecord (settingsOf file)) refusal.Cut) (cond b (scanOf file (freshRecord (settingsOf file))) (stopped (freshRecord (settingsOf file)) refusal.Duration)) .end) (fit (outputOf file) lent)
+        → cond a (written.Refused refusal.Cut)
+        (cond b (endedBy (verdictOf (endOf file)) (fit (outputOf file) lent)) (written.Refused refusal.Duration))
+        ≡ endedBy
+        (cond a (stopped (freshRecord (settingsOf file)) refusal.Cut)
+        (cond b (scanOf file (freshRecord (settingsOf file)))
+        (stopped (freshRecord (settingsOf file)) refusal.Duration))
+        .end)
+        (fit (outputOf file) lent)
     go true b = refl
     go false true = refl
     go false false = refl
@@ -94,7 +104,8 @@ pub run-refused : (file l : List ℕ) {p : Scan} {why : Refusal} → p ≡ planO
 unfolding outOf
 run-refused file l {p} {why} e q =
     let k : ranOf file (length l) ≡ written.Refused why =
-    ran-by file (length l) ∙ (λ i. endedBy ((ap (λ (s : Scan). s .end) (sym e) ∙ q) i) (fit (outputOf file) (length l))) in
+    ran-by file (length l)
+    ∙ (λ i. endedBy ((ap (λ (s : Scan). s .end) (sym e) ∙ q) i) (fit (outputOf file) (length l))) in
     (sym k, λ i. outBy (sym k i) (over (outputOf file) l) l)
 
 whole-not : {C : Type 0} {why : Refusal} → verdict.Bad why ≡ verdict.Whole → C
@@ -105,7 +116,8 @@ whole-not {C} {why} e = never {t = isBad (verdict.Bad why)} refl (ap isBad e)
     isBad (verdict.Bad why) = true
 
 -- only a scan ends whole
-pub plan-whole : (file : List ℕ) → planOf file .end ≡ verdict.Whole → planOf file ≡ scanOf file (freshRecord (settingsOf file))
+pub plan-whole : (file : List ℕ) → planOf file .end ≡ verdict.Whole
+    → planOf file ≡ scanOf file (freshRecord (settingsOf file))
 unfolding planOf
 plan-whole file = go (ltb (length file) 32) (allowed (settingsOf file))
   where
@@ -113,8 +125,10 @@ plan-whole file = go (ltb (length file) 32) (allowed (settingsOf file))
     first = freshRecord (settingsOf file)
 
     go : (a b : Bool)
-        → cond a (stopped first refusal.Cut) (cond b (scanOf file first) (stopped first refusal.Duration)) .end ≡ verdict.Whole
-        → cond a (stopped first refusal.Cut) (cond b (scanOf file first) (stopped first refusal.Duration)) ≡ scanOf file first
+        → cond a (stopped first refusal.Cut) (cond b (scanOf file first) (stopped first refusal.Duration)) .end
+        ≡ verdict.Whole
+        → cond a (stopped first refusal.Cut) (cond b (scanOf file first) (stopped first refusal.Duration))
+        ≡ scanOf file first
     go true b e = whole-not e
     go false true e = refl
     go false false e = whole-not e
@@ -160,15 +174,19 @@ module _ (file l : List ℕ) {p : Scan} {told : ℕ} (e : p ≡ planOf file) (q 
         ∙ ap length output-is
 
     ran-whole : ranOf file (length l) ≡ fit (outputOf file) (length l)
-    ran-whole = ran-by file (length l) ∙ (λ i. endedBy ((ap (λ (s : Scan). s .end) (sym e) ∙ q) i) (fit (outputOf file) (length l)))
+    ran-whole =
+        ran-by file (length l)
+        ∙ (λ i. endedBy ((ap (λ (s : Scan). s .end) (sym e) ∙ q) i) (fit (outputOf file) (length l)))
 
     -- 16
     pub run-lent : {b : Bool} → b ≡ leb (16 * p .count + told) (length l) → b ≡ false
         → (written.Refused refusal.Lent ≡ ranOf file (length l)) × (l ≡ outOf file l)
     unfolding outOf
     run-lent {b} a f =
-        let z : leb (length (outputOf file)) (length l) ≡ false = (λ i. leb (sym output-length i) (length l)) ∙ sym a ∙ f in
-        let k : ranOf file (length l) ≡ written.Refused refusal.Lent = ran-whole ∙ (λ i. cond (z i) (written.Count (length (outputOf file))) (written.Refused refusal.Lent)) in
+        let z : leb (length (outputOf file)) (length l) ≡ false =
+        (λ i. leb (sym output-length i) (length l)) ∙ sym a ∙ f in
+        let k : ranOf file (length l) ≡ written.Refused refusal.Lent =
+        ran-whole ∙ (λ i. cond (z i) (written.Count (length (outputOf file))) (written.Refused refusal.Lent)) in
         (sym k, λ i. outBy (sym k i) (over (outputOf file) l) l)
 
     -- all is written
@@ -177,16 +195,22 @@ module _ (file l : List ℕ) {p : Scan} {told : ℕ} (e : p ≡ planOf file) (q 
       run-room = leb-true (16 * p .count + told) (length l) (sym a ∙ f)
 
       taken : answersIn file (freshRecord (settingsOf file)) (length l) ≡ flat entryBytes all
-      taken = ap (flat entryBytes) (take-all (length l / 16) all (omega (arith, run-room, is-count, trace-length (freshRecord (settingsOf file)) (eventsOf file))))
+      taken =
+          let n = trace-length (freshRecord (settingsOf file)) (eventsOf file) in
+          ap (flat entryBytes) (take-all (length l / 16) all (omega (arith, run-room, is-count, n)))
 
-      pub run-answers : {r : Record} {l₁ : List ℕ} → r ≡ freshRecord (settingsOf file) → l₁ ≡ over (answersIn file r (length l)) l
+      pub run-answers : {r : Record} {l₁ : List ℕ} → r ≡ freshRecord (settingsOf file)
+          → l₁ ≡ over (answersIn file r (length l)) l
           → Filled l (flat entryBytes all) l₁ (16 * p .count)
       run-answers {r} {l₁} g h =
-          let k : l₁ ≡ over (flat entryBytes all) l = h ∙ (λ i. over (answersIn file (g i) (length l)) l) ∙ ap (λ (z : List ℕ). over z l) taken in
+          let k : l₁ ≡ over (flat entryBytes all) l =
+          h ∙ (λ i. over (answersIn file (g i) (length l)) l) ∙ ap (λ (z : List ℕ). over z l) taken in
           record {
             long = answers-are;
             room = omega (arith, run-room);
-            is = k ∙ over-fits (flat entryBytes all) l (omega (arith, answers-are, run-room)) ∙ ap (λ (n : ℕ). flat entryBytes all ++ drop n l) answers-are;
+            is =
+                k ∙ over-fits (flat entryBytes all) l (omega (arith, answers-are, run-room))
+                ∙ ap (λ (n : ℕ). flat entryBytes all ++ drop n l) answers-are;
           }
 
       pub run-whole : {l₁ m : List ℕ} → Filled l (flat entryBytes all) l₁ (16 * p .count)
@@ -196,8 +220,10 @@ module _ (file l : List ℕ) {p : Scan} {told : ℕ} (e : p ≡ planOf file) (q 
       unfolding outOf
       run-whole {l₁} {m} g h =
           let n = output-length in
-          let z : leb (length (outputOf file)) (length l) ≡ true = le-leb (length (outputOf file)) (length l) (omega (arith, n, run-room)) in
-          let k : ranOf file (length l) ≡ written.Count (length (outputOf file)) = ran-whole ∙ (λ i. cond (z i) (written.Count (length (outputOf file))) (written.Refused refusal.Lent)) in
+          let z : leb (length (outputOf file)) (length l) ≡ true =
+          le-leb (length (outputOf file)) (length l) (omega (arith, n, run-room)) in
+          let k : ranOf file (length l) ≡ written.Count (length (outputOf file)) =
+          ran-whole ∙ (λ i. cond (z i) (written.Count (length (outputOf file))) (written.Refused refusal.Lent)) in
           let x = fill (standingsOf (p .rec .slots)) g (omega (arith, t, run-room)) h in (
             ap (λ (c : ℕ). written.Count c) n ∙ sym k,
             filled-over x ∙ ap (λ (c : List ℕ). over c l) output-is ∙ (λ i. outBy (sym k i) (over (outputOf file) l) l),

@@ -12,7 +12,8 @@ use Rattle.octets.proofs.Fill.{Filled, nothing, fill, filled-over, le-length, o
 use Rattle.rules.specs.declared.types.Slot.{Slot}
 use Rattle.standing.specs.Standing.{standingOf, bytesOf}
 use Rattle.standing.specs.declared.types.Standing.{Standing}
-use Rattle.standing.proofs.Laying.{Laying, laying-start, laying-room, laying-next, laying-end, Adding, adding-start, adding-next, adding-end}
+use Rattle.standing.proofs.Laying.{Laying, laying-start, laying-room, laying-next, laying-end}
+use Rattle.standing.proofs.Laying.{Adding, adding-start, adding-next, adding-end}
 use Rattle.eventrun.specs.Runs.{slotBytes, slotSize, standingsFrom}
 
 -- ---- numbered slots
@@ -55,7 +56,8 @@ pub slot-length : (i : ℕ) (s : Slot) → length (slotBytes i s) ≡ slotSize s
 unfolding slotBytes
 slot-length i s = go (s .used)
   where
-    go : (used : Bool) → length (cond used (le 1 i ++ bytesOf (standingOf (s .path))) []) ≡ cond used (1 + length (bytesOf (standingOf (s .path)))) 0
+    go : (used : Bool) → length (cond used (le 1 i ++ bytesOf (standingOf (s .path))) [])
+        ≡ cond used (1 + length (bytesOf (standingOf (s .path)))) 0
     go true =
         length-append (le 1 i) (bytesOf (standingOf (s .path)))
         ∙ ap (λ (n : ℕ). n + length (bytesOf (standingOf (s .path)))) (le-length 1 i)
@@ -68,7 +70,8 @@ slot-not i s {l} e h = sym (over-not (slotBytes i s) l (omega (arith, e, slot-le
 -- it is empty
 pub slot-none : (i : ℕ) (s : Slot) (l : List ℕ) → s .used ≡ false → l ≡ over (slotBytes i s) l
 unfolding slotBytes
-slot-none i s l e = filled-over (nothing l) ∙ (λ j. over (cond (sym e j) (le 1 i ++ bytesOf (standingOf (s .path))) []) l)
+slot-none i s l e =
+    filled-over (nothing l) ∙ (λ j. over (cond (sym e j) (le 1 i ++ bytesOf (standingOf (s .path))) []) l)
 
 -- its number, then its standing
 pub slot-told : (i : ℕ) (s : Slot) (l : List ℕ) {n : ℕ} → s .used ≡ true → n ≡ slotSize s → n ≤ length l
@@ -79,7 +82,8 @@ pub slot-told : (i : ℕ) (s : Slot) (l : List ℕ) {n : ℕ} → s .used ≡ tr
 unfolding slotBytes le
 slot-told i s l {n} u e h {m₁} a {t} {m₂} q b =
     let k : n ≡ 1 + length (bytesOf t) = e ∙ (λ j. cond (u j) (1 + length (bytesOf (sym q j))) 0) in
-    let f₁ : Filled l (le 1 i) (putMid 0 (length l - 0) l m₁) 1 = fill (le 1 i) (nothing l) (omega (arith, le-length 1 i, k, h)) a in
+    let f₁ : Filled l (le 1 i) (putMid 0 (length l - 0) l m₁) 1 =
+    fill (le 1 i) (nothing l) (omega (arith, le-length 1 i, k, h)) a in
     let f₂ = fill (bytesOf t) f₁ (omega (arith, le-length 1 i, k, h)) b in
     filled-over f₂
     ∙ ap (λ (t : Standing). over (le 1 i ++ bytesOf t) l) q
@@ -118,7 +122,8 @@ module _ (l : List Slot) (eight : length l ≡ 8) where
       → (k ≡ slotSize (getD l i d)) × (k ≤ 52) → Adding bytesAt 52 (numbered 0 l) 8 (n + k) (i + 1)
   sizes-next {n} {i} s h d e = adding-next s h (0, d) (e .0 ∙ same-size l i d (omega (arith, eight))) (e .1)
 
-  pub sizes-end : {n i : ℕ} → Adding bytesAt 52 (numbered 0 l) 8 n i → 8 ≤ i → (n ≡ length (standingsFrom 0 l)) × (n ≤ 416)
+  pub sizes-end : {n i : ℕ} → Adding bytesAt 52 (numbered 0 l) 8 n i → 8 ≤ i
+      → (n ≡ length (standingsFrom 0 l)) × (n ≤ 416)
   sizes-end {n} {i} s h =
       (adding-end s h ∙ ap length (standings-flat 0 l), omega (arith, s .few, s .upto))
 
@@ -136,11 +141,14 @@ module _ (l : List Slot) (eight : length l ≡ 8) where
         → Laying bytesAt (numbered 0 l) 8 l₀ [] (putMid at (length out - at) out m) (at + k) (i + 1)
     told-next h d {k} {m} e f =
         laying-next s h (0, d) (e ∙ same-size l i d (omega (arith, eight)))
-        (f ∙ ap (λ (x : ℕ × Slot). over (bytesAt x) (midOf at (length out - at) out)) (sym (numbered-at l i d (omega (arith, eight)))))
+        (f
+        ∙ ap (λ (x : ℕ × Slot). over (bytesAt x) (midOf at (length out - at) out))
+        (sym (numbered-at l i d (omega (arith, eight)))))
 
     pub told-end : 8 ≤ i → out ≡ over (standingsFrom 0 l) l₀
     told-end h = filled-over (laying-end s h) ∙ ap (λ (z : List ℕ). over z l₀) (standings-flat 0 l)
 
 -- they do not fit
-pub told-not : (l : List Slot) {l₀ : List ℕ} {n : ℕ} → n ≡ length (standingsFrom 0 l) → length l₀ < n → l₀ ≡ over (standingsFrom 0 l) l₀
+pub told-not : (l : List Slot) {l₀ : List ℕ} {n : ℕ} → n ≡ length (standingsFrom 0 l) → length l₀ < n
+    → l₀ ≡ over (standingsFrom 0 l) l₀
 told-not l {l₀} e h = sym (over-not (standingsFrom 0 l) l₀ (omega (arith, e)))

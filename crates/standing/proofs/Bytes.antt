@@ -8,7 +8,7 @@ use mathlib.Core.Path.{_≡_, refl, ap, _∙_}
 use mathlib.Core.List.{List, [], _∷_, _++_, map}
 use lib.Dec.{eqb}
 use lib.ListN.{length, length-append}
-use Rattle.base.specs.Seq.{flagOf, keep}
+use Rattle.base.specs.Seq.{keep}
 use Rattle.base.specs.declared.types.MaybeId.{MaybeId}
 use Rattle.base.specs.declared.types.MaybeId.the-variants as id
 use Rattle.base.specs.declared.types.MaybeTime.{MaybeTime}
@@ -18,7 +18,8 @@ use Rattle.base.specs.declared.types.MaybeLen.the-variants as len
 use Rattle.octets.specs.Octets.{le, flat}
 use Rattle.octets.proofs.Fill.{le-length, flat-append}
 use Rattle.image.specs.Image.{etxBits}
-use Rattle.standing.specs.Standing.{wholeField, timeField, idField, lenField, fieldsOf, mapOf, partsOf, widthOf, bytesIn, bytesOf}
+use Rattle.standing.specs.Standing.{wholeField, timeField, idField, lenField, fieldsOf, mapOf, partsOf, widthOf}
+use Rattle.standing.specs.Standing.{bytesIn, bytesOf}
 use Rattle.standing.specs.declared.types.Standing.{Standing}
 use Rattle.standing.specs.declared.types.Field.{Field}
 
@@ -110,7 +111,8 @@ kept (f ∷ l) = go (f .on) refl (kept l)
 
 -- the map in one byte, the fields whose bits stand, then the ETX and the misses
 pub bytes-are : (s : Standing) → bytesOf s ≡ mapOf (map (λ f. f .on) (fieldsOf s))
-    ∷ (flat (λ (f : Field). le (f .width) (f .value)) (keep (λ f. f .on) (fieldsOf s)) ++ (le 8 (etxBits (s .etx)) ++ le 4 (s .misses)))
+    ∷ (flat (λ (f : Field). le (f .width) (f .value)) (keep (λ f. f .on) (fieldsOf s))
+    ++ (le 8 (etxBits (s .etx)) ++ le 4 (s .misses)))
 unfolding bytesOf flat le
 bytes-are s =
     let m = mapOf (map (λ f. f .on) (fieldsOf s)) in

@@ -30,7 +30,8 @@ pub record Laying {A : Type 0} (f : A → List ℕ) (xs : List A) (n : ℕ) (l�
   pub done : Filled l₀ (p ++ flat f (take i xs)) l at
 
 module _ {A : Type 0} {f : A → List ℕ} {xs : List A} {n : ℕ} {l₀ p l : List ℕ} where
-  pub laying-start : {at : ℕ} → length xs ≡ n → at + length (flat f xs) ≤ length l₀ → Filled l₀ p l at → Laying f xs n l₀ p l at 0
+  pub laying-start : {at : ℕ} → length xs ≡ n → at + length (flat f xs) ≤ length l₀ → Filled l₀ p l at
+      → Laying f xs n l₀ p l at 0
   unfolding flat
   laying-start {at} h k d = record { long = h; upto = zero-le; left = k; done = rw append-nil d }
 
@@ -48,17 +49,21 @@ module _ {A : Type 0} {f : A → List ℕ} {xs : List A} {n : ℕ} {l₀ p l : L
     pub laying-room : {k : ℕ} → k ≡ length (f (getD xs i d)) → at + k ≤ length l
     laying-room {k} b = omega (arith, b, split, s .left, filled-length (s .done))
 
-    pub laying-next : {m : List ℕ} {k : ℕ} → k ≡ length (f (getD xs i d)) → m ≡ over (f (getD xs i d)) (midOf at (length l - at) l)
+    pub laying-next : {m : List ℕ} {k : ℕ} → k ≡ length (f (getD xs i d))
+        → m ≡ over (f (getD xs i d)) (midOf at (length l - at) l)
         → Laying f xs n l₀ p (putMid at (length l - at) l m) (at + k) (i + 1)
     laying-next {m} {k} b e =
         let r : at + length (f (getD xs i d)) ≤ length l₀ = omega (arith, split, s .left) in
-        let g : Filled l₀ ((p ++ flat f (take i xs)) ++ f (getD xs i d)) (putMid at (length l - at) l m) (at + length (f (getD xs i d))) = fill (f (getD xs i d)) (s .done) r e in
+        let b₁ = f (getD xs i d) in
+        let g : Filled l₀ ((p ++ flat f (take i xs)) ++ b₁) (putMid at (length l - at) l m) (at + length b₁) =
+        fill b₁ (s .done) r e in
         rw (add-one i)
         (record {
           long = s .long;
           upto = h;
           left = omega (arith, split, s .left);
-          done = rw (taken-bytes f xs i d (omega (arith, s .long)), sym (append-assoc p (flat f (take i xs)) (f (getD xs i d))), b) g;
+          done =
+              rw (taken-bytes f xs i d (omega (arith, s .long)), sym (append-assoc p (flat f (take i xs)) b₁), b) g;
         })
 
 -- of the n elements of xs those before i have so many bytes, each at most w

@@ -39,8 +39,10 @@ module _ (s : Standing) (l : List ℕ) (fs : List Field) (e : fs ≡ partsOf s) 
   unfolding writtenOf
   written-whole {m} {at} f =
       let q : length (bytesOf s) ≡ at = ap length (sym bytes) ∙ f .long in
-      let k : length (bytesOf s) ≤ length l = omega (arith, q, f .room) in
-      (rw (le-leb (length (bytesOf s)) (length l) k) (ap (λ (n : ℕ). written.Count n) (sym q)), filled-over f ∙ ap (λ (b : List ℕ). over b l) bytes)
+      let k : length (bytesOf s) ≤ length l = omega (arith, q, f .room) in (
+        rw (le-leb (length (bytesOf s)) (length l) k) (ap (λ (n : ℕ). written.Count n) (sym q)),
+        filled-over f ∙ ap (λ (b : List ℕ). over b l) bytes,
+      )
 
 -- an element does not depend on what stands for a missing one
 pub at-any : {A : Type 0} (l : List A) (i : ℕ) (d d₂ : A) → i < length l → getD l i d ≡ getD l i d₂

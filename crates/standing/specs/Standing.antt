@@ -1,5 +1,6 @@
--- The standing of a path and its bytes (document 01, "Files and tail": "Standing of a path: map u8, then last, least and
--- base RTT (u64), proven u16, answered u32, quiet u64 where their bits 0 to 5 stand, then ETX bits u64, misses u32").
+-- The standing of a path and its bytes (document 01, "Files and tail": "Standing of a path: map u8, then last, least
+-- and base RTT (u64), proven u16, answered u32, quiet u64 where their bits 0 to 5 stand, then ETX bits u64, misses
+-- u32").
 use Prim.Native.Nat.{ℕ, _+_, _*_}
 use mathlib.Core.Bool.{Bool, true, false, not, cond, _||_}
 use mathlib.Core.List.{List, [], _∷_, _++_, map}

@@ -77,7 +77,8 @@ pub fn size(s: Standing) -> usize
 // Writes a standing over the front of `out` and says how many bytes it has; or 16, and nothing is written. Each field
 // goes into the part that starts after the field before it.
 pub fn write(s: Standing, out: &mut [u8]) -> Written
-    ensures { λ r. ⌜ (r ≡ writtenOf s (length (now (out .entry)))) × (now (out .exit) ≡ over (bytesOf s) (now (out .entry))) ⌝ }
+    ensures { λ r. ⌜ (r ≡ writtenOf s (length (now (out .entry))))
+        × (now (out .exit) ≡ over (bytesOf s) (now (out .entry))) ⌝ }
 {
     let parts = layout::parts(s);
     if out.len() < total(parts) {
@@ -95,7 +96,8 @@ pub fn write(s: Standing, out: &mut [u8]) -> Written
 
 // Writes the standing of a slot's path; 1 for a slot above 7, 2 for an empty one, then 16; a refusal writes nothing.
 pub fn standing(rec: Record, slot: u8, out: &mut [u8]) -> Written
-    ensures { λ r. ⌜ (r ≡ slotWritten rec slot (length (now (out .entry)))) × (now (out .exit) ≡ slotOut rec slot (now (out .entry))) ⌝ }
+    ensures { λ r. ⌜ (r ≡ slotWritten rec slot (length (now (out .entry))))
+        × (now (out .exit) ≡ slotOut rec slot (now (out .entry))) ⌝ }
 {
     if 7 < slot {
         return Written::Refused(Refusal::Slot);
