@@ -1,13 +1,12 @@
 //! Lists of events on a peer record, from fixed seeds. A scene runs the record beside the list that
 //! it makes, so that events can aim at the paths' own instants, identifiers and sizes.
 
-use crate::calls::{DATA, HEARD, IDS, LATE, PROVEN, QUIET, RING, SAMPLES, SEEK, SPANS};
+use crate::aims::{MS, SECOND, answered_since, duration, instants, waits_since, weighted};
+use crate::calls::{IDS, PROVEN, RING, SEEK};
 use crate::random::Rng;
+use oracle::proto::path::eventfile::{WIDTHS, fields_of};
 use oracle::proto::path::record::{Event, Record, Reply, SLOTS};
-use oracle::proto::path::script::{Image, after_of};
-
-const MS: u64 = 1_000_000;
-const SECOND: u64 = 1_000_000_000;
+use oracle::proto::path::script::Image;
 
 /// Kinds of events by name.
 pub const OPEN: u8 = 1;
@@ -60,6 +59,8 @@ pub struct Theme {
     damage: u64,
     /// Whether size searches are led through to their end.
     led: bool,
+    /// Events, in a hundred, with neither an instant nor a draw: their records are short.
+    bare: u64,
 }
 
 /// Ordinary life; the others say what they do otherwise.
@@ -82,6 +83,23 @@ const LIFE: Theme = Theme {
     unread: 0,
     damage: 0,
     led: false,
+    bare: 0,
+};
+
+/// Short records of all kinds and refusals, for files of very many.
+#[rustfmt::skip]
+pub const SHORT: Theme = Theme {
+    name: "short",
+    seed: 11,
+    kinds: &[
+        (PROBE, 14), (ANSWER, 14), (POLL, 8), (SAMPLE, 4), (FOLD, 10), (PROVE, 6), (SEARCH, 6),
+        (JUDGE, 4), (HEAR, 3), (FRESH, 4), (THAW, 4), (SWEEP, 3), (CLOSE, 7), (CHOOSE, 4),
+        (OPEN, 3),
+    ],
+    slots: 8,
+    damage: 2,
+    bare: 40,
+    ..LIFE
 };
 
 /// The themes, in the order in which they are written.
@@ -212,7 +230,19 @@ pub fn lists() -> Vec<List> {
 
 impl Theme {
     fn list(&self, seed: u64, len: usize) -> List {
-        let mut scene = Scene::new(self, Rng::new(seed));
+        self.made(Scene::new(self, Rng::new(seed)), seed, len)
+    }
+
+    /// A list of events that a file can hold.
+    pub fn filed(&self, seed: u64, len: usize) -> List {
+        let scene = Scene {
+            filed: true,
+            ..Scene::new(self, Rng::new(seed))
+        };
+        self.made(scene, seed, len)
+    }
+
+    fn made(&self, mut scene: Scene, seed: u64, len: usize) -> List {
         List {
             theme: self.name,
             name: format!("seed {seed:#x}, {len} events"),
@@ -220,6 +250,29 @@ impl Theme {
             events: (0..len).map(|_| scene.next()).collect(),
         }
     }
+
+    /// A duration of the theme's own, or by its steps.
+    fn duration(&self, rng: &mut Rng) -> u64 {
+        match self.times {
+            [] => duration(rng, self.steps),
+            times => rng.pick(times),
+        }
+    }
+}
+
+/// An event as a file can hold it: fields of their width, those that the kind has; `kind` where its
+/// own is none.
+pub fn fitted(e: &Event, kind: u8) -> Event {
+    let kind = match e.kind {
+        1..=15 => e.kind,
+        _ => kind,
+    };
+    let mut fields = e.fields();
+    for (bit, field) in fields.iter_mut().enumerate() {
+        *field *= u64::from(fields_of(kind) >> bit & 1);
+        *field &= u64::MAX >> (64 - 8 * WIDTHS[bit]);
+    }
+    Event::of(kind, e.slot, fields)
 }
 
 /// One list on its way.
@@ -245,12 +298,14 @@ struct Scene<'a> {
     fits: u64,
     preferred: u64,
     roles: &'static [u8],
+    /// Whether a file is to hold the events.
+    filed: bool,
 }
 
 impl<'a> Scene<'a> {
     fn new(theme: &'a Theme, mut rng: Rng) -> Self {
         let step = rng.pick(theme.steps);
-        let settings = core::array::from_fn(|_| duration(&mut rng, theme));
+        let settings = core::array::from_fn(|_| theme.duration(&mut rng));
         let trip = rng.pick(&[0, MS, 10 * MS, 100 * MS, (1 << 62) - 1]);
         let near = |by: u64| (trip / 10).saturating_mul(by).min((1 << 62) - 1);
         Self {
@@ -275,6 +330,7 @@ impl<'a> Scene<'a> {
                 &[0, 1],
                 &[0, 1, 2, 3],
             ]),
+            filed: false,
             theme,
             rng,
             step,
@@ -287,7 +343,15 @@ impl<'a> Scene<'a> {
         self.image = self.record.image(self.slot);
         let mut event = self.event();
         event.slot = self.slot as u8;
+        let kind = event.kind;
         self.spoil(&mut event);
+        if self.filed {
+            event = fitted(&event, kind);
+        }
+        if self.theme.bare > 0 && self.rng.percent(self.theme.bare) {
+            event.now = 0;
+            event.id *= u32::from(event.kind == ANSWER);
+        }
         let reply = self.record.event(&event);
         if reply.0 == 0 && matches!(event.kind, PROBE | SEARCH) {
             self.given[usize::from(event.slot)].push(reply.1 as u32);
@@ -304,16 +368,7 @@ impl<'a> Scene<'a> {
         if self.theme.led && self.image.is_some() && self.rng.percent(75) {
             return self.lead();
         }
-        let all: u64 = self.theme.kinds.iter().map(|&(_, w)| w).sum();
-        let mut left = self.rng.below(all);
-        let mut kinds = self.theme.kinds.iter();
-        let kind = loop {
-            let &(kind, weight) = kinds.next().expect("weights sum up");
-            if left < weight {
-                break kind;
-            }
-            left -= weight;
-        };
+        let kind = weighted(&mut self.rng, self.theme.kinds);
         self.of_kind(kind)
     }
 
@@ -353,21 +408,9 @@ impl<'a> Scene<'a> {
 
     /// Any numbers in fields that the kind doesn't read; any at all in some fields.
     fn spoil(&mut self, e: &mut Event) {
-        let read: &[u8] = match e.kind {
-            OPEN => &[3, 5],
-            PROBE => &[0, 1, 2, 3],
-            ANSWER => &[0, 2, 4],
-            POLL => &[0, 5],
-            SAMPLE | JUDGE => &[0, 1],
-            FOLD => &[5],
-            PROVE => &[3],
-            SEARCH => &[0, 2],
-            HEAR => &[0, 3],
-            CHOOSE => &[1],
-            _ => &[],
-        };
+        let read = fields_of(e.kind);
         for field in 0..6 {
-            let percent = match read.contains(&field) {
+            let percent = match read >> field & 1 == 1 {
                 true => self.theme.damage,
                 false => self.theme.unread,
             };
@@ -442,17 +485,12 @@ impl<'a> Scene<'a> {
 
     /// What leads to the loss of the search probe: a later probe, its answer, and a judgement.
     fn lose(&mut self, i: &Image) -> Event {
-        let id = i[SEEK + 2] as u32;
-        let later = |other: u64| after_of(other as u32, id);
         let mut e = Event::default();
-        let waits = (RING..LATE)
-            .step_by(5)
-            .find(|&at| i[at] == 1 && later(i[at + 1]));
-        if i[IDS + 2] == 1 && later(i[IDS + 3]) {
+        if answered_since(i) {
             (e.kind, e.span) = (JUDGE, self.time());
             e.now = self.rng.near(i[SEEK + 1].saturating_add(e.span));
-        } else if let Some(at) = waits {
-            (e.kind, e.now, e.id) = (ANSWER, self.instant(), i[at + 1] as u32);
+        } else if let Some(id) = waits_since(i) {
+            (e.kind, e.now, e.id) = (ANSWER, self.instant(), id as u32);
         } else {
             (e.kind, e.now, e.span) = (PROBE, self.instant(), self.due());
         }
@@ -477,7 +515,7 @@ impl<'a> Scene<'a> {
     /// The clock, moved on; or an instant that the path knows, or a rule's distance from one.
     fn instant(&mut self) -> u64 {
         if self.rng.percent(self.theme.aimed) {
-            let known = self.instants();
+            let known = instants(&self.image.unwrap_or([0; 225]), self.now);
             let far = self.distance();
             let at = self.rng.pick(&known).wrapping_add(far);
             return self.rng.near(at);
@@ -501,30 +539,11 @@ impl<'a> Scene<'a> {
         self.rng.pick(&[0, 0, 0, time, time / 6, 600 * SECOND])
     }
 
-    /// Every instant that the path holds, and the clock.
-    fn instants(&self) -> Vec<u64> {
-        let i = self.image.unwrap_or([0; 225]);
-        let mut known = vec![self.now];
-        for at in (RING..IDS).step_by(5).filter(|&at| i[at] == 1) {
-            known.extend([i[at + 2], i[at + 3]]);
-        }
-        for at in [QUIET, SEEK, HEARD, DATA] {
-            known.extend((i[at] == 1).then_some(i[at + 1]));
-        }
-        for at in (SAMPLES..SPANS).step_by(3).filter(|&at| i[at] == 1) {
-            known.push(i[at + 1]);
-        }
-        for at in (SPANS..SPANS + 32).step_by(4).filter(|&at| i[at] == 1) {
-            known.extend([i[at + 1], i[at + 2]]);
-        }
-        known
-    }
-
     /// A timeout: mostly short beside the steps.
     fn time(&mut self) -> u64 {
         match self.rng.below(12) {
             0 => self.rng.near(1 << 62),
-            1 => duration(&mut self.rng, self.theme),
+            1 => self.theme.duration(&mut self.rng),
             2..6 => self.settings[0],
             _ => self.rng.pick(&[0, 1, self.step % (1 << 62)]),
         }
@@ -612,19 +631,5 @@ impl<'a> Scene<'a> {
             1 => id ^ 1 << 31,
             _ => id,
         }
-    }
-}
-
-/// A duration below 2^62: one of the theme's, or some steps, or any.
-fn duration(rng: &mut Rng, theme: &Theme) -> u64 {
-    if !theme.times.is_empty() {
-        return rng.pick(theme.times);
-    }
-    let (step, times) = (rng.pick(theme.steps), rng.below(40));
-    match rng.below(8) {
-        0 => rng.below(8),
-        1 => rng.wide() % (1 << 62),
-        2 => (1 << 62) - 1,
-        _ => step.saturating_mul(times) % (1 << 62),
     }
 }

@@ -3,6 +3,7 @@
 //! path after them. A field or a pair: `picked.rs`. All are little-endian words. What the fields and
 //! pairs show goes to standard error.
 
+mod aims;
 #[allow(dead_code)]
 mod calls;
 #[allow(dead_code)]

@@ -2,14 +2,10 @@
 //! the script that it makes, so that arguments can aim at the path's own instants, identifiers
 //! and sizes, and beside them.
 
-use crate::calls::{
-    Arg, DATA, HEARD, IDS, LAST, LATE, OPS, PROVEN, QUIET, RING, SAMPLES, SEEK, SPANS, STOP, op,
-};
+use crate::aims::{MS, SECOND, answered_since, duration, instants, waits_since, weighted};
+use crate::calls::{Arg, IDS, LAST, LATE, OPS, PROVEN, RING, SEEK, op};
 use crate::random::{LIMITS, Rng};
-use oracle::proto::path::script::{Call, Image, Path, Reply, after_of};
-
-const MS: u64 = 1_000_000;
-const SECOND: u64 = 1_000_000_000;
+use oracle::proto::path::script::{Call, Image, Path, Reply};
 
 /// How a flavour's scripts are made.
 pub struct Flavour {
@@ -194,7 +190,7 @@ impl<'a> Scene<'a> {
             path,
             step,
         };
-        scene.times = core::array::from_fn(|_| scene.duration());
+        scene.times = core::array::from_fn(|_| duration(&mut scene.rng, flavour.steps));
         scene
     }
 
@@ -258,8 +254,7 @@ impl<'a> Scene<'a> {
         if out <= self.carries {
             return [op("seek_answer"), id, self.times[1], 0, 0, 0];
         }
-        let later = |other: u64| after_of(other as u32, id as u32);
-        if i[IDS + 2] == 1 && later(i[IDS + 3]) {
+        if answered_since(&i) {
             let (now, timeout) = (i[SEEK + 1].saturating_add(self.times[0]), self.times[0]);
             return [
                 op("seek_judge"),
@@ -270,27 +265,15 @@ impl<'a> Scene<'a> {
                 0,
             ];
         }
-        let waits = (RING..LATE)
-            .step_by(5)
-            .find(|&at| i[at] == 1 && later(i[at + 1]));
-        match waits {
-            Some(at) => [op("answer"), i[at + 1], 0, 0, 0, 0],
+        match waits_since(&i) {
+            Some(id) => [op("answer"), id, 0, 0, 0, 0],
             None => [op("send"), self.now, self.due(), 27, self.draw, 0],
         }
     }
 
     /// A call by its weight, with arguments.
     fn any_call(&mut self) -> Call {
-        let all: u64 = self.flavour.calls.iter().map(|&(_, w)| w).sum();
-        let mut left = self.rng.below(all);
-        let mut calls = self.flavour.calls.iter();
-        let name = loop {
-            let &(name, weight) = calls.next().expect("weights sum up");
-            if left < weight {
-                break name;
-            }
-            left -= weight;
-        };
+        let name = weighted(&mut self.rng, self.flavour.calls);
         let mut call = [op(name), 0, 0, 0, 0, 0];
         for (n, &(_, arg)) in OPS[call[0] as usize].1.iter().enumerate() {
             call[n + 1] = self.argument(arg);
@@ -317,7 +300,7 @@ impl<'a> Scene<'a> {
     /// The clock, moved on; or an instant that the path knows, or a rule's distance from one.
     fn instant(&mut self) -> u64 {
         if self.rng.percent(self.flavour.aimed) {
-            let known = self.instants();
+            let known = instants(&self.image, self.now);
             let far = self.distance();
             let at = self.rng.pick(&known).wrapping_add(far);
             return self.rng.near(at);
@@ -344,43 +327,12 @@ impl<'a> Scene<'a> {
             .pick(&[0, 0, 0, time, time / 6, SECOND, 30 * SECOND, 600 * SECOND])
     }
 
-    /// Every instant that the path holds, and the clock.
-    fn instants(&self) -> Vec<u64> {
-        let i = &self.image;
-        let mut known = vec![self.now];
-        for at in (RING..IDS).step_by(5).filter(|&at| i[at] == 1) {
-            known.extend([i[at + 2], i[at + 3]]);
-        }
-        for at in [QUIET, STOP, STOP + 4, SEEK, HEARD, DATA] {
-            known.extend((i[at] == 1).then_some(i[at + 1]));
-        }
-        for at in (SAMPLES..SPANS).step_by(3).filter(|&at| i[at] == 1) {
-            known.push(i[at + 1]);
-        }
-        for at in (SPANS..SPANS + 32).step_by(4).filter(|&at| i[at] == 1) {
-            known.extend([i[at + 1], i[at + 2]]);
-        }
-        known
-    }
-
     /// One of the script's durations, as a caller keeps them, or another.
     fn time(&mut self) -> u64 {
         match self.rng.below(40) {
             0 => self.rng.near(1 << 62),
-            1..5 => self.duration(),
+            1..5 => duration(&mut self.rng, self.flavour.steps),
             _ => self.rng.pick(&self.times.clone()),
-        }
-    }
-
-    /// A duration below 2^62.
-    fn duration(&mut self) -> u64 {
-        let step = self.rng.pick(self.flavour.steps);
-        let times = self.rng.below(40);
-        match self.rng.below(8) {
-            0 => self.rng.below(8),
-            1 => self.rng.wide() % (1 << 62),
-            2 => (1 << 62) - 1,
-            _ => step.saturating_mul(times) % (1 << 62),
         }
     }
 

@@ -93,6 +93,36 @@ impl Reach {
         }
     }
 
+    /// The counts of two threads together.
+    #[allow(dead_code)]
+    pub fn add(&mut self, other: Self) {
+        self.lists += other.lists;
+        self.long += other.long;
+        self.events += other.events;
+        for (kind, (accepted, refused)) in other.kinds {
+            let counts = self.kinds.entry(kind).or_default();
+            *counts = (counts.0 + accepted, counts.1 + refused);
+        }
+        for (number, count) in other.numbers {
+            *self.numbers.entry(number).or_default() += count;
+        }
+        for (what, count) in other.seen {
+            *self.seen.entry(what).or_default() += count;
+        }
+    }
+
+    /// What was never reached: kinds, refusals 1 to 11, and what is counted by name.
+    #[allow(dead_code)]
+    pub fn missing(&self) -> Vec<String> {
+        let kind = |kind: &u8| self.kinds.get(kind).is_none_or(|counts| counts.0 == 0);
+        let number = |number: &u64| !self.numbers.contains_key(number);
+        let kinds = (1..=15).filter(kind).map(|kind| format!("kind {kind}"));
+        let numbers = (0..=11).filter(number).map(|n| format!("number {n}"));
+        let seen = self.seen.iter().filter(|(_, count)| **count == 0);
+        let names = seen.map(|(what, _)| what.to_string());
+        kinds.chain(numbers).chain(names).collect()
+    }
+
     fn see(&mut self, what: &'static str, on: bool) {
         *self.seen.entry(what).or_default() += u64::from(on);
     }
@@ -213,6 +243,9 @@ impl Reach {
             ("choice by preferred", Mark::Preferred),
             ("choice by medium", Mark::Medium),
         ];
+        let margin = f64::from_bits(e.span);
+        let odd = margin > 1e300 || margin > 1.0 && margin < 1.0 + 1e-15;
+        self.see("choice by a margin just above 1 or just finite", odd);
         for (name, mark) in marks {
             let moved = before.without(mark).event(e) != reply;
             self.see(name, moved);

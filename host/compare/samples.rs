@@ -3,7 +3,10 @@
 //! lists reach goes to standard error.
 
 #[allow(dead_code)]
+mod aims;
+#[allow(dead_code)]
 mod calls;
+#[allow(dead_code)]
 mod events;
 mod papers;
 mod random;

@@ -5,6 +5,7 @@ use crate::calls::{Arg, OPS, field, show};
 use crate::entries;
 use crate::flavours::{FLAVOURS, Flavour, script};
 use crate::random::Rng;
+use crate::smaller;
 use oracle::proto::path::script::{CALL, Call, IMAGE, Path, Reply, word};
 
 /// Scripts of a flavour, and the most calls in one.
@@ -200,40 +201,8 @@ fn difference(calls: &[Call]) -> Option<String> {
 }
 
 /// The same difference on fewer calls, then on smaller numbers.
-fn smallest(mut calls: Vec<Call>) -> Vec<Call> {
-    let mut tries = 0;
-    let mut fails = |calls: &[Call]| {
-        tries += 1;
-        tries < TRIES && difference(calls).is_some()
-    };
-    loop {
-        let before = calls.clone();
-        for n in (0..calls.len()).rev() {
-            let fewer = [0, 1].map(|by| without(&calls, n, by));
-            if let Some(fewer) = fewer.into_iter().find(|c| fails(c)) {
-                calls = fewer;
-            }
-        }
-        for n in 0..6 * calls.len() {
-            let old = calls[n / 6][n % 6];
-            for new in smaller(old) {
-                let mut one = calls.clone();
-                one[n / 6][n % 6] = new;
-                let equal = |w: u64| if w == old { new } else { w };
-                let above = |w: u64| if w >= old { w - (old - new) } else { w };
-                let all = calls.iter().map(|c| c.map(equal)).collect();
-                let shifted = calls.iter().map(|c| c.map(above)).collect();
-                let found = [one, all, shifted].into_iter().find(|c| fails(c));
-                if let Some(found) = found {
-                    calls = found;
-                    break;
-                }
-            }
-        }
-        if calls == before {
-            return calls;
-        }
-    }
+fn smallest(calls: Vec<Call>) -> Vec<Call> {
+    smaller::smallest(calls, TRIES, without, |calls| difference(calls).is_some())
 }
 
 /// A script without its call `n`, the identifiers that later calls name lowered.
@@ -253,23 +222,6 @@ fn without(calls: &[Call], n: usize, by: u64) -> Vec<Call> {
         }
     }
     fewer
-}
-
-/// Numbers to try in place of one.
-fn smaller(word: u64) -> Vec<u64> {
-    let mut all: Vec<u64> = vec![
-        0,
-        1,
-        27,
-        28,
-        word / 2,
-        word & (word >> 1),
-        word.saturating_sub(1),
-    ];
-    all.extend((0..64).rev().map(|bit| word & !(1 << bit)));
-    all.retain(|&w| w < word);
-    all.dedup();
-    all
 }
 
 /// Print a script that shows a difference, and end.

@@ -1,5 +1,6 @@
 //! Ours beside the Rust: `sides compare`, `sides bench`.
 
+mod aims;
 mod bench;
 mod calls;
 mod entries;
@@ -11,6 +12,7 @@ mod random;
 mod rivals;
 mod scripts;
 mod single;
+mod smaller;
 
 use scripts::{Scripts, name_of};
 use single::Single;

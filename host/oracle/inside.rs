@@ -98,6 +98,11 @@ impl Liveness<u64> {
         self.seek.len != 0
     }
 
+    /// The newest identifier answered in time.
+    pub fn answered(&self) -> Option<u32> {
+        self.answered
+    }
+
     /// The private function `after`.
     pub fn comes_after(a: u32, b: u32) -> bool {
         after(a, b)

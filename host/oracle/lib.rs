@@ -55,11 +55,13 @@ pub mod proto {
 
     pub mod path {
         pub mod choice;
+        pub mod eventfile;
         pub mod live;
         pub mod params;
         pub mod record;
         pub mod script;
         pub mod select;
+        pub mod standing;
 
         use set::Medium;
 

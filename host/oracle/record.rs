@@ -26,6 +26,29 @@ pub struct Event {
     pub flags: u8,
 }
 
+impl Event {
+    /// An event by its fields in the file's order, each as wide as it is here.
+    pub fn of(kind: u8, slot: u8, fields: [u64; 6]) -> Self {
+        let [now, span, id, len, acked, flags] = fields;
+        Self {
+            kind,
+            slot,
+            now,
+            span,
+            id: id as u32,
+            len: len as u32,
+            acked: acked as u32,
+            flags: flags as u8,
+        }
+    }
+
+    /// Its fields in the file's order.
+    pub fn fields(&self) -> [u64; 6] {
+        let (id, len, acked) = (self.id.into(), self.len.into(), self.acked.into());
+        [self.now, self.span, id, len, acked, self.flags.into()]
+    }
+}
+
 /// Number and value.
 pub type Reply = (u64, u64);
 
@@ -235,6 +258,11 @@ impl Record {
             }
         }
         other
+    }
+
+    /// The path in a slot, if it is open.
+    pub(super) fn path(&self, slot: usize) -> Option<&Liveness<u64>> {
+        self.slots[slot].as_ref().map(|slot| &slot.live)
     }
 
     /// Every field of the path in a slot, if it is open.

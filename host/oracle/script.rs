@@ -60,7 +60,7 @@ fn flag(word: u64) -> bool {
 }
 
 /// A float's bits, every NaN as one.
-fn bits(x: f64) -> u64 {
+pub(super) fn bits(x: f64) -> u64 {
     one_nan(x.to_bits())
 }
 
