@@ -3,7 +3,7 @@ use Prim.Native.Nat.{ℕ}
 use mathlib.Core.List.{List}
 use Rattle.standing.specs.declared.types.Written.{Written}
 use Rattle.standing.specs.declared.types.Written.the-variants as written
-use Rattle.eventrun.specs.Runs.{ranOf}
+use Rattle.eventrun.specs.Runs.{fileWritten}
 use Rattle.entries.specs.Entries.{refusedReply, given}
 use Rattle.entries.specs.declared.Reply.{Reply}
 
@@ -14,4 +14,4 @@ writtenReply (written.Refused why) = refusedReply why
 
 -- of a file, with so many lent bytes
 abbrev pub eventsReply : List ℕ → ℕ → Reply
-eventsReply file lent = writtenReply (ranOf file lent)
+eventsReply file lent = writtenReply (fileWritten file lent)

@@ -1,7 +1,8 @@
 // Event files, over C: the answers and the standings of the paths as bytes.
 ghost use mathlib.Core.Path.{_≡_};
 ghost use lib.ListN.{length};
-ghost use Rattle.eventrun.specs.Runs.{outOf, Keeps};
+ghost use Rattle.eventfile.specs.Claim.{FileDemand};
+ghost use Rattle.eventrun.specs.Runs.{outOf};
 ghost use Rattle.entries.specs.Events.{writtenReply, eventsReply};
 use crate::Reply;
 use standing::types::Written;
@@ -20,7 +21,7 @@ fn of_written(answer: Written) -> Reply
 #[no_mangle]
 pub extern "C" fn hess_events(file: &[u8], out: &mut [u8]) -> Reply
     ensures { λ r. ⌜ (r ≡ eventsReply (now (file .entry)) (length (now (out .entry))))
-        × ((now (out .exit) ≡ outOf (now (file .entry)) (now (out .entry))) × Keeps (now (file .entry))) ⌝ }
+        × ((now (out .exit) ≡ outOf (now (file .entry)) (now (out .entry))) × FileDemand (now (file .entry))) ⌝ }
 {
     of_written(eventrun::run_events(file, out))
 }

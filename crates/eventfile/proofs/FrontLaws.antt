@@ -10,7 +10,7 @@ use lib.ListN.{length, getD}
 use Rattle.base.specs.declared.types.Refusal.the-variants as refusal
 use Rattle.base.proofs.Cases.{on-order}
 use Rattle.rules.specs.declared.types.Event.{Event}
-use Rattle.eventfile.specs.File.{bytes, layoutOf, sizeOf, field, eventOf, isKindless, isStray, frontBy, frontOf}
+use Rattle.eventfile.specs.File.{bytes, layoutOf, recordSize, field, eventOf, isKindless, isStray, frontBy, frontOf}
 use Rattle.eventfile.specs.declared.types.Layout.{Layout}
 use Rattle.eventfile.specs.declared.types.Parse.the-variants as parse
 
@@ -22,23 +22,23 @@ or-none false = refl
 -- ---- the record by its map and kind
 
 module _ (map kind : ℕ) (l : List ℕ) where
-  pub by-cut : length l < sizeOf map → parse.Refused refusal.Cut kind ≡ frontBy map kind l
+  pub by-cut : length l < recordSize map → parse.Refused refusal.Cut kind ≡ frontBy map kind l
   unfolding frontBy
-  by-cut h = rw (lt-ltb (length l) (sizeOf map) h)
+  by-cut h = rw (lt-ltb (length l) (recordSize map) h)
 
-  pub by-kind : sizeOf map ≤ length l → isKindless kind ≡ true → parse.Refused refusal.Kind kind ≡ frontBy map kind l
+  pub by-kind : recordSize map ≤ length l → isKindless kind ≡ true → parse.Refused refusal.Kind kind ≡ frontBy map kind l
   unfolding frontBy
-  by-kind h a = rw (le-ltb (length l) (sizeOf map) h, a)
+  by-kind h a = rw (le-ltb (length l) (recordSize map) h, a)
 
-  pub by-map : sizeOf map ≤ length l → isKindless kind ≡ false → isStray map kind ≡ true
+  pub by-map : recordSize map ≤ length l → isKindless kind ≡ false → isStray map kind ≡ true
       → parse.Refused refusal.Map kind ≡ frontBy map kind l
   unfolding frontBy
-  by-map h a b = rw (le-ltb (length l) (sizeOf map) h, a, b)
+  by-map h a b = rw (le-ltb (length l) (recordSize map) h, a, b)
 
-  pub by-event : sizeOf map ≤ length l → isKindless kind ≡ false → isStray map kind ≡ false
-      → parse.Event (eventOf map kind l) (sizeOf map) ≡ frontBy map kind l
+  pub by-event : recordSize map ≤ length l → isKindless kind ≡ false → isStray map kind ≡ false
+      → parse.Event (eventOf map kind l) (recordSize map) ≡ frontBy map kind l
   unfolding frontBy
-  by-event h a b = rw (le-ltb (length l) (sizeOf map) h, a, b)
+  by-event h a b = rw (le-ltb (length l) (recordSize map) h, a, b)
 
 -- ---- the record that bytes begin with
 
@@ -70,7 +70,7 @@ module _ {l : List ℕ} {map kind : ℕ} {at : Layout} (h : Head l map kind at) 
   opened : frontBy map kind l ≡ frontOf l
   opened = (λ i. frontBy (h .map-is i) (h .kind-is i) l) ∙ front-some l (h .some)
 
-  size-is : at .size ≡ sizeOf map
+  size-is : at .size ≡ recordSize map
   size-is = λ i. h .at-is i .size
 
   pub front-cut : length l < at .size → parse.Refused refusal.Cut kind ≡ frontOf l

@@ -18,7 +18,7 @@ use Rattle.base.proofs.Cases.{on-order, on-flag}
 use Rattle.octets.specs.Octets.{readAt}
 use Rattle.octets.proofs.Read.{read-more}
 use Rattle.rules.specs.declared.types.Event.{Event}
-use Rattle.eventfile.specs.File.{stands, bytes, nowAt, spanAt, idAt, lenAt, ackedAt, flagsAt, sizeOf, field}
+use Rattle.eventfile.specs.File.{stands, bytes, nowAt, spanAt, idAt, lenAt, ackedAt, flagsAt, recordSize, field}
 use Rattle.eventfile.specs.File.{eventOf, isKindless, isStray, frontBy, frontOf, from, parseOf}
 use Rattle.eventfile.specs.declared.types.Parse.{Parse}
 use Rattle.eventfile.specs.declared.types.Parse.the-variants as parse
@@ -29,8 +29,8 @@ use Rattle.eventfile.proofs.FrontLaws.{front-some, by-cut, by-kind, by-
 -- what is known of the bytes by what they begin with: the record is there whole unless it was refused by 13
 abbrev pub Reach : List ℕ → Parse → Type 0
 Reach l parse.End = length l ≡ 0
-Reach l (parse.Event e size) = (3 ≤ size) × (size ≤ length l) × (sizeOf (getD l 0 0) ≤ length l)
-Reach l (parse.Refused why kind) = (0 < length l) × ((refusalNumber why ≡ 13 → ⊥) → sizeOf (getD l 0 0) ≤ length l)
+Reach l (parse.Event e size) = (3 ≤ size) × (size ≤ length l) × (recordSize (getD l 0 0) ≤ length l)
+Reach l (parse.Refused why kind) = (0 < length l) × ((refusalNumber why ≡ 13 → ⊥) → recordSize (getD l 0 0) ≤ length l)
 
 pub front-reach : (l : List ℕ) → Reach l (frontOf l)
 unfolding frontOf
@@ -40,7 +40,7 @@ front-reach (map ∷ l) = go (getD l 0 0)
     go : (kind : ℕ) → Reach (map ∷ l) (frontBy map kind (map ∷ l))
     go kind =
         let b = map ∷ l in
-        on-order (length b) (sizeOf map)
+        on-order (length b) (recordSize map)
         (λ h. subst (Reach b) (by-cut map kind b h) (omega arith, λ n. absurd (n refl)))
         (λ h. on-flag (isKindless kind)
         (λ p. subst (Reach b) (by-kind map kind b h p) (omega arith, λ n. h))
@@ -75,9 +75,9 @@ parse-end l at h = λ i. from at (frontOf (sym (drop-of-length-le l h) i))
 -- and ends within the bytes; a record that is refused begins within them, and is there whole unless that was by 13
 abbrev pub Stands : List ℕ → ℕ → Parse → Type 0
 Stands l at parse.End = length l ≤ at
-Stands l at (parse.Event e next) = (at + 3 ≤ next) × (next ≤ length l) × (at + sizeOf (getD (drop at l) 0 0) ≤ length l)
+Stands l at (parse.Event e next) = (at + 3 ≤ next) × (next ≤ length l) × (at + recordSize (getD (drop at l) 0 0) ≤ length l)
 Stands l at (parse.Refused why kind) =
-    (at < length l) × ((refusalNumber why ≡ 13 → ⊥) → at + sizeOf (getD (drop at l) 0 0) ≤ length l)
+    (at < length l) × ((refusalNumber why ≡ 13 → ⊥) → at + recordSize (getD (drop at l) 0 0) ≤ length l)
 
 pub parse-stands : (l : List ℕ) (at : ℕ) → Stands l at (parseOf l at)
 unfolding parseOf
@@ -99,7 +99,7 @@ field-more bit w map at l t h = go (stands bit map) h
     go true k = read-more at w l t k
     go false k = refl
 
-event-more : (map kind : ℕ) (l t : List ℕ) → sizeOf map ≤ length l → eventOf map kind (l ++ t) ≡ eventOf map kind l
+event-more : (map kind : ℕ) (l t : List ℕ) → recordSize map ≤ length l → eventOf map kind (l ++ t) ≡ eventOf map kind l
 event-more map kind l t h =
     let f₀ = field-more 0 8 map nowAt l t (omega (arith, h)) in
     let f₁ = field-more 1 8 map (spanAt map) l t (omega (arith, h)) in
@@ -111,14 +111,14 @@ event-more map kind l t h =
     λ i. record { now = f₀ i; span = f₁ i; id = f₂ i; len = f₃ i; acked = f₄ i; kind = kind; slot = s i; flags = f₅ i }
 
 -- a record that is whole is read the same with more bytes behind it
-pub front-more : (l t : List ℕ) → sizeOf (getD l 0 0) ≤ length l → frontOf (l ++ t) ≡ frontOf l
+pub front-more : (l t : List ℕ) → recordSize (getD l 0 0) ≤ length l → frontOf (l ++ t) ≡ frontOf l
 unfolding frontBy
 front-more l t h =
     let map = getD l 0 0 in
     let kind = getD l 1 0 in
     let n = length-append l t in
-    let c : ltb (length (l ++ t)) (sizeOf map) ≡ ltb (length l) (sizeOf map) =
-    le-ltb (length (l ++ t)) (sizeOf map) (omega (arith, n, h)) ∙ sym (le-ltb (length l) (sizeOf map) h) in
+    let c : ltb (length (l ++ t)) (recordSize map) ≡ ltb (length l) (recordSize map) =
+    le-ltb (length (l ++ t)) (recordSize map) (omega (arith, n, h)) ∙ sym (le-ltb (length l) (recordSize map) h) in
     let g₀ = List·getD-append l t 0 0 (omega (arith, h)) in
     let g₁ = List·getD-append l t 0 1 (omega (arith, h)) in
     let e = event-more map kind l t h in
@@ -126,10 +126,10 @@ front-more l t h =
     ∙ (λ i. frontBy (g₀ i) (g₁ i) (l ++ t))
     ∙ (λ i. cond (c i) (parse.Refused refusal.Cut kind)
     (cond (isKindless kind) (parse.Refused refusal.Kind kind)
-    (cond (isStray map kind) (parse.Refused refusal.Map kind) (parse.Event (e i) (sizeOf map)))))
+    (cond (isStray map kind) (parse.Refused refusal.Map kind) (parse.Event (e i) (recordSize map)))))
     ∙ front-some l (omega (arith, h))
 
-pub parse-more : (l t : List ℕ) (at : ℕ) → at + sizeOf (getD (drop at l) 0 0) ≤ length l
+pub parse-more : (l t : List ℕ) (at : ℕ) → at + recordSize (getD (drop at l) 0 0) ≤ length l
     → parseOf (l ++ t) at ≡ parseOf l at
 unfolding parseOf
 parse-more l t at h =

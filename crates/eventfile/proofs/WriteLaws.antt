@@ -12,8 +12,8 @@ use Rattle.octets.proofs.Read.{read-back}
 use Rattle.octets.proofs.Fill.{le-length, flat-length}
 use Rattle.rules.specs.declared.types.Event.{Event}
 use Rattle.rules.specs.declared.types.Settings.{Settings}
-use Rattle.eventfile.specs.File.{stands, bytes, spanAt, idAt, lenAt, ackedAt, flagsAt, sizeOf, field, eventOf}
-use Rattle.eventfile.specs.File.{settingsOf, frontOf, from, parseOf, eventsFrom, eventsOf, Whole, endFrom, endOf}
+use Rattle.eventfile.specs.File.{stands, bytes, spanAt, idAt, lenAt, ackedAt, flagsAt, recordSize, field, eventOf}
+use Rattle.eventfile.specs.File.{settingsOf, frontOf, from, parseOf, eventsFrom, eventsOf, Whole, endFrom, endingOf}
 use Rattle.eventfile.specs.Writer.{fieldBytes, recordBytes, Held, Writable, fileBytes, AllWritable, AllFit}
 use Rattle.eventfile.specs.Writer.{RecordsReadBack, FilesReadBack}
 use Rattle.eventfile.specs.declared.types.Parse.the-variants as parse
@@ -57,7 +57,7 @@ six a b c d e f t =
     (append-assoc c (d ++ (e ++ f)) t
     ∙ ap (λ (z : List ℕ). c ++ z) (append-assoc d (e ++ f) t ∙ ap (λ (z : List ℕ). d ++ z) (append-assoc e f t))))
 
-pub record-length : (map : ℕ) (e : Event) → length (recordBytes map e) ≡ sizeOf map
+pub record-length : (map : ℕ) (e : Event) → length (recordBytes map e) ≡ recordSize map
 unfolding recordBytes
 record-length map e =
     let s₀ = fieldBytes 0 8 map (e .now) in
@@ -129,15 +129,15 @@ event-back map e t w =
     }
 
 front-back : (map : ℕ) (e : Event) (t : List ℕ) → Writable map e
-    → frontOf (recordBytes map e ++ t) ≡ parse.Event e (sizeOf map)
+    → frontOf (recordBytes map e ++ t) ≡ parse.Event e (recordSize map)
 unfolding recordBytes
 front-back map e t w =
     let b = recordBytes map e ++ t in
-    let n : length b ≡ sizeOf map + length t =
+    let n : length b ≡ recordSize map + length t =
     length-append (recordBytes map e) t ∙ (λ i. record-length map e i + length t) in
     sym (front-some b (omega (arith, n)))
     ∙ sym (by-event map (e .kind) b (omega (arith, n)) (w .kind) (w .bits))
-    ∙ (λ i. parse.Event (event-back map e t w i) (sizeOf map))
+    ∙ (λ i. parse.Event (event-back map e t w i) (recordSize map))
 
 -- the record of an event is read back, with any bytes before it and behind it
 pub read-written : RecordsReadBack
@@ -162,7 +162,7 @@ records-back f p (r ∷ rs) w h =
     let l = p ++ (b ++ t) in
     let e = read-written (r .0) (r .1) p t (w .0) in
     let a : (p ++ b) ++ t ≡ l = append-assoc p b t in
-    let n : length (p ++ b) ≡ length p + sizeOf (r .0) =
+    let n : length (p ++ b) ≡ length p + recordSize (r .0) =
     length-append p b ∙ (λ i. length p + record-length (r .0) (r .1) i) in
     let k = records-back f (p ++ b) rs (w .1) (omega (arith, h, n, ap (λ (z : List ℕ). length z) a)) in (
       events-event f l (length p) h e ∙ (λ i. r .1 ∷ ((λ j. eventsFrom f (sym a j) (sym n j)) ∙ k .0) i),
@@ -200,7 +200,7 @@ settings-back t l h =
 
 -- a file that was written is read back: its settings, its events, and its end after a whole record
 pub file-back : FilesReadBack
-unfolding fileBytes eventsOf endOf
+unfolding fileBytes eventsOf endingOf
 file-back t rs h w =
     let p = wordsOf (t .cap ∷ t .gap ∷ t .window ∷ t .horizon ∷ []) in
     let b = flat (λ r. recordBytes (r .0) (r .1)) rs in

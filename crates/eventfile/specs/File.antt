@@ -52,8 +52,8 @@ abbrev pub flagsAt : ℕ → ℕ
 flagsAt map = ackedAt map + bytes 4 2 map
 
 -- the bytes of a record, by the bits 0 to 5 of its map: "map bits 6 and 7 bring no bytes"
-abbrev pub sizeOf : ℕ → ℕ
-sizeOf map = flagsAt map + bytes 5 1 map
+abbrev pub recordSize : ℕ → ℕ
+recordSize map = flagsAt map + bytes 5 1 map
 
 -- all of these places
 abbrev pub layoutOf : ℕ → Layout
@@ -64,7 +64,7 @@ layoutOf map =
       len = lenAt map;
       acked = ackedAt map;
       flags = flagsAt map;
-      size = sizeOf map;
+      size = recordSize map;
     }
 
 -- "little-endian, an absent field is 0": a field of so many bytes, which begins there if its bit stands
@@ -148,9 +148,9 @@ isStray map kind = any (λ b. not (hasBit kind b) && stands b map) (0 ∷ 1 ∷ 
 -- the bytes of its record
 unfoldable pub frontBy : ℕ → ℕ → List ℕ → Parse
 frontBy map kind l =
-    cond (ltb (length l) (sizeOf map)) (parse.Refused refusal.Cut kind)
+    cond (ltb (length l) (recordSize map)) (parse.Refused refusal.Cut kind)
     (cond (isKindless kind) (parse.Refused refusal.Kind kind)
-    (cond (isStray map kind) (parse.Refused refusal.Map kind) (parse.Event (eventOf map kind l) (sizeOf map))))
+    (cond (isStray map kind) (parse.Refused refusal.Map kind) (parse.Event (eventOf map kind l) (recordSize map))))
 
 -- the same with the map and the kind that are there: "kind is 0 if unread"; where there are no bytes, no record begins
 unfoldable pub frontOf : List ℕ → Parse
@@ -200,5 +200,5 @@ endFrom zero l at = Whole
 endFrom (suc f) l at = endBy (parseOf l at) (endFrom f l)
 
 -- how the records after the settings end
-unfoldable pub endOf : List ℕ → Ending
-endOf l = endFrom (length l) l 32
+unfoldable pub endingOf : List ℕ → Ending
+endingOf l = endFrom (length l) l 32

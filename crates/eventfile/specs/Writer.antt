@@ -7,7 +7,7 @@ use lib.ListN.{length}
 use Rattle.octets.specs.Octets.{le, flat, wordsOf}
 use Rattle.rules.specs.declared.types.Event.{Event}
 use Rattle.rules.specs.declared.types.Settings.{Settings}
-use Rattle.eventfile.specs.File.{settingsOf, stands, sizeOf, isKindless, isStray, parseOf, eventsOf, Whole, endOf}
+use Rattle.eventfile.specs.File.{settingsOf, stands, recordSize, isKindless, isStray, parseOf, eventsOf, Whole, endingOf}
 use Rattle.eventfile.specs.declared.types.Parse.the-variants as parse
 
 -- a field, if its bit stands
@@ -59,7 +59,7 @@ abbrev pub RecordsReadBack : Type 0
 RecordsReadBack =
     (map : ℕ) (e : Event) (before behind : List ℕ)
     → Writable map e
-    → parseOf (before ++ (recordBytes map e ++ behind)) (length before) ≡ parse.Event e (length before + sizeOf map)
+    → parseOf (before ++ (recordBytes map e ++ behind)) (length before) ≡ parse.Event e (length before + recordSize map)
 
 -- a file that was written is read back: its settings, its events, and its end after a whole record
 abbrev pub FilesReadBack : Type 0
@@ -69,4 +69,4 @@ FilesReadBack =
     → AllWritable rs
     → (settingsOf (fileBytes t rs) ≡ t)
     × (eventsOf (fileBytes t rs) ≡ map (λ r. r .1) rs)
-    × (endOf (fileBytes t rs) ≡ Whole)
+    × (endingOf (fileBytes t rs) ≡ Whole)

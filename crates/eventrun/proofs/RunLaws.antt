@@ -24,9 +24,9 @@ use Rattle.rules.specs.declared.types.Event.{Event}
 use Rattle.rules.specs.declared.types.Record.{Record}
 use Rattle.standing.specs.Standing.{fit}
 use Rattle.standing.specs.declared.types.Written.the-variants as written
-use Rattle.eventfile.specs.File.{settingsOf, eventsOf, endOf}
-use Rattle.eventrun.specs.Runs.{entryBytes, standingsOf, outputOf, verdictOf, endedBy, ranOf, outBy, outOf}
-use Rattle.eventrun.specs.Runs.{scanOf, stopped, planOf}
+use Rattle.eventfile.specs.File.{settingsOf, eventsOf, endingOf}
+use Rattle.eventrun.specs.Runs.{entryBytes, standingsOf, outputOf, endVerdict, endedBy, fileWritten, outBy, outOf}
+use Rattle.eventrun.specs.Runs.{passOf, notRun, planOf}
 use Rattle.eventrun.specs.declared.types.Verdict.{Verdict}
 use Rattle.eventrun.specs.declared.types.Verdict.the-variants as verdict
 use Rattle.eventrun.specs.declared.types.Scan.{Scan}
@@ -36,13 +36,13 @@ use Rattle.eventrun.proofs.AnswerLaws.{words-two, answersIn}
 
 -- by the tests
 plan-by : (file : List ℕ) {a b : Bool} → ltb (length file) 32 ≡ a → allowed (settingsOf file) ≡ b
-    → planOf file ≡ cond a (stopped (freshRecord (settingsOf file)) refusal.Cut)
-    (cond b (scanOf file (freshRecord (settingsOf file))) (stopped (freshRecord (settingsOf file)) refusal.Duration))
+    → planOf file ≡ cond a (notRun (freshRecord (settingsOf file)) refusal.Cut)
+    (cond b (passOf file (freshRecord (settingsOf file))) (notRun (freshRecord (settingsOf file)) refusal.Duration))
 unfolding planOf
 plan-by file p q =
-    λ i. cond (p i) (stopped (freshRecord (settingsOf file)) refusal.Cut)
-    (cond (q i) (scanOf file (freshRecord (settingsOf file)))
-    (stopped (freshRecord (settingsOf file)) refusal.Duration))
+    λ i. cond (p i) (notRun (freshRecord (settingsOf file)) refusal.Cut)
+    (cond (q i) (passOf file (freshRecord (settingsOf file)))
+    (notRun (freshRecord (settingsOf file)) refusal.Duration))
 
 module _ (file : List ℕ) {t : Settings} {o : Stepped} (a : t ≡ settingsOf file) (e : o ≡ recordOf t) where
   made : o ≡ recordOf (settingsOf file)
@@ -53,8 +53,8 @@ module _ (file : List ℕ) {t : Settings} {o : Stepped} (a : t ≡ settingsOf fi
   made-next = ap (λ (s : Stepped). s .next) made
 
   -- the settings are cut short
-  pub plan-cut : length file < 32 → stopped (o .next) refusal.Cut ≡ planOf file
-  plan-cut h = (λ i. stopped (made-next i) refusal.Cut) ∙ sym (plan-by file (lt-ltb (length file) 32 h) refl)
+  pub plan-cut : length file < 32 → notRun (o .next) refusal.Cut ≡ planOf file
+  plan-cut h = (λ i. notRun (made-next i) refusal.Cut) ∙ sym (plan-by file (lt-ltb (length file) 32 h) refl)
 
   module _ (h : 32 ≤ length file) {n : ℕ} (k : n ≡ numberOf (o .reply)) where
     number-by : (b : Bool) → allowed (settingsOf file) ≡ b → n ≡ cond b 0 6
@@ -67,31 +67,31 @@ module _ (file : List ℕ) {t : Settings} {o : Stepped} (a : t ≡ settingsOf fi
         ∙ (λ i. numberOf (cond (q i) reply.Nothing (reply.Refused refusal.Duration)))
 
     -- a record is made
-    pub plan-scan : n ≡ 0 → {r : Scan} → r ≡ scanOf file (o .next) → r ≡ planOf file
+    pub plan-scan : n ≡ 0 → {r : Scan} → r ≡ passOf file (o .next) → r ≡ planOf file
     plan-scan z {r} f =
         on-flag (allowed (settingsOf file))
-        (λ q. f ∙ ap (scanOf file) made-next ∙ sym (plan-by file (le-ltb (length file) 32 h) q))
+        (λ q. f ∙ ap (passOf file) made-next ∙ sym (plan-by file (le-ltb (length file) 32 h) q))
         (λ q. absurd (omega (arith, z, number-by false q)))
 
     -- none is
-    pub plan-large : (n ≡ 0 → ⊥) → stopped (o .next) refusal.Duration ≡ planOf file
+    pub plan-large : (n ≡ 0 → ⊥) → notRun (o .next) refusal.Duration ≡ planOf file
     plan-large z =
         on-flag (allowed (settingsOf file))
         (λ q. absurd (z (number-by true q)))
-        (λ q. (λ i. stopped (made-next i) refusal.Duration) ∙ sym (plan-by file (le-ltb (length file) 32 h) q))
+        (λ q. (λ i. notRun (made-next i) refusal.Duration) ∙ sym (plan-by file (le-ltb (length file) 32 h) q))
 
 -- the run is by the plan's end
-pub ran-by : (file : List ℕ) (lent : ℕ) → ranOf file lent ≡ endedBy (planOf file .end) (fit (outputOf file) lent)
-unfolding ranOf planOf scanOf
+pub ran-by : (file : List ℕ) (lent : ℕ) → fileWritten file lent ≡ endedBy (planOf file .end) (fit (outputOf file) lent)
+unfolding fileWritten planOf passOf
 ran-by file lent = go (ltb (length file) 32) (allowed (settingsOf file))
   where
     go : (a b : Bool)
         → cond a (written.Refused refusal.Cut)
-        (cond b (endedBy (verdictOf (endOf file)) (fit (outputOf file) lent)) (written.Refused refusal.Duration))
+        (cond b (endedBy (endVerdict (endingOf file)) (fit (outputOf file) lent)) (written.Refused refusal.Duration))
         ≡ endedBy
-        (cond a (stopped (freshRecord (settingsOf file)) refusal.Cut)
-        (cond b (scanOf file (freshRecord (settingsOf file)))
-        (stopped (freshRecord (settingsOf file)) refusal.Duration))
+        (cond a (notRun (freshRecord (settingsOf file)) refusal.Cut)
+        (cond b (passOf file (freshRecord (settingsOf file)))
+        (notRun (freshRecord (settingsOf file)) refusal.Duration))
         .end)
         (fit (outputOf file) lent)
     go true b = refl
@@ -100,10 +100,10 @@ ran-by file lent = go (ltb (length file) 32) (allowed (settingsOf file))
 
 -- 13, 6, 14 or 15
 pub run-refused : (file l : List ℕ) {p : Scan} {why : Refusal} → p ≡ planOf file → p .end ≡ verdict.Bad why
-    → (written.Refused why ≡ ranOf file (length l)) × (l ≡ outOf file l)
+    → (written.Refused why ≡ fileWritten file (length l)) × (l ≡ outOf file l)
 unfolding outOf
 run-refused file l {p} {why} e q =
-    let k : ranOf file (length l) ≡ written.Refused why =
+    let k : fileWritten file (length l) ≡ written.Refused why =
     ran-by file (length l)
     ∙ (λ i. endedBy ((ap (λ (s : Scan). s .end) (sym e) ∙ q) i) (fit (outputOf file) (length l))) in
     (sym k, λ i. outBy (sym k i) (over (outputOf file) l) l)
@@ -117,7 +117,7 @@ whole-not {C} {why} e = never {t = isBad (verdict.Bad why)} refl (ap isBad e)
 
 -- only a scan ends whole
 pub plan-whole : (file : List ℕ) → planOf file .end ≡ verdict.Whole
-    → planOf file ≡ scanOf file (freshRecord (settingsOf file))
+    → planOf file ≡ passOf file (freshRecord (settingsOf file))
 unfolding planOf
 plan-whole file = go (ltb (length file) 32) (allowed (settingsOf file))
   where
@@ -125,10 +125,10 @@ plan-whole file = go (ltb (length file) 32) (allowed (settingsOf file))
     first = freshRecord (settingsOf file)
 
     go : (a b : Bool)
-        → cond a (stopped first refusal.Cut) (cond b (scanOf file first) (stopped first refusal.Duration)) .end
+        → cond a (notRun first refusal.Cut) (cond b (passOf file first) (notRun first refusal.Duration)) .end
         ≡ verdict.Whole
-        → cond a (stopped first refusal.Cut) (cond b (scanOf file first) (stopped first refusal.Duration))
-        ≡ scanOf file first
+        → cond a (notRun first refusal.Cut) (cond b (passOf file first) (notRun first refusal.Duration))
+        ≡ passOf file first
     go true b e = whole-not e
     go false true e = refl
     go false false e = whole-not e
@@ -146,15 +146,15 @@ answers-length l = flat-length entryBytes 16 (λ x. words-two (x .number) (x .va
 module _ (file l : List ℕ) {p : Scan} {told : ℕ} (e : p ≡ planOf file) (q : p .end ≡ verdict.Whole)
     (t : told ≡ length (standingsOf (p .rec .slots)))
   where
-    plain : p ≡ scanOf file (freshRecord (settingsOf file))
+    plain : p ≡ passOf file (freshRecord (settingsOf file))
     plain = e ∙ plan-whole file (ap (λ (s : Scan). s .end) (sym e) ∙ q)
 
     is-count : p .count ≡ length (eventsOf file)
-    unfolding scanOf
+    unfolding passOf
     is-count = ap (λ (s : Scan). s .count) plain
 
     is-rec : p .rec ≡ run (freshRecord (settingsOf file)) (eventsOf file)
-    unfolding scanOf
+    unfolding passOf
     is-rec = ap (λ (s : Scan). s .rec) plain
 
     abbrev pub all : List Entry
@@ -173,19 +173,19 @@ module _ (file l : List ℕ) {p : Scan} {told : ℕ} (e : p ≡ planOf file) (q 
         ∙ sym (length-append (flat entryBytes all) (standingsOf (p .rec .slots)))
         ∙ ap length output-is
 
-    ran-whole : ranOf file (length l) ≡ fit (outputOf file) (length l)
+    ran-whole : fileWritten file (length l) ≡ fit (outputOf file) (length l)
     ran-whole =
         ran-by file (length l)
         ∙ (λ i. endedBy ((ap (λ (s : Scan). s .end) (sym e) ∙ q) i) (fit (outputOf file) (length l)))
 
     -- 16
     pub run-lent : {b : Bool} → b ≡ leb (16 * p .count + told) (length l) → b ≡ false
-        → (written.Refused refusal.Lent ≡ ranOf file (length l)) × (l ≡ outOf file l)
+        → (written.Refused refusal.Lent ≡ fileWritten file (length l)) × (l ≡ outOf file l)
     unfolding outOf
     run-lent {b} a f =
         let z : leb (length (outputOf file)) (length l) ≡ false =
         (λ i. leb (sym output-length i) (length l)) ∙ sym a ∙ f in
-        let k : ranOf file (length l) ≡ written.Refused refusal.Lent =
+        let k : fileWritten file (length l) ≡ written.Refused refusal.Lent =
         ran-whole ∙ (λ i. cond (z i) (written.Count (length (outputOf file))) (written.Refused refusal.Lent)) in
         (sym k, λ i. outBy (sym k i) (over (outputOf file) l) l)
 
@@ -215,14 +215,14 @@ module _ (file l : List ℕ) {p : Scan} {told : ℕ} (e : p ≡ planOf file) (q 
 
       pub run-whole : {l₁ m : List ℕ} → Filled l (flat entryBytes all) l₁ (16 * p .count)
           → m ≡ over (standingsOf (p .rec .slots)) (midOf (16 * p .count) (length l₁ - 16 * p .count) l₁)
-          → (written.Count (16 * p .count + told) ≡ ranOf file (length l))
+          → (written.Count (16 * p .count + told) ≡ fileWritten file (length l))
           × (putMid (16 * p .count) (length l₁ - 16 * p .count) l₁ m ≡ outOf file l)
       unfolding outOf
       run-whole {l₁} {m} g h =
           let n = output-length in
           let z : leb (length (outputOf file)) (length l) ≡ true =
           le-leb (length (outputOf file)) (length l) (omega (arith, n, run-room)) in
-          let k : ranOf file (length l) ≡ written.Count (length (outputOf file)) =
+          let k : fileWritten file (length l) ≡ written.Count (length (outputOf file)) =
           ran-whole ∙ (λ i. cond (z i) (written.Count (length (outputOf file))) (written.Refused refusal.Lent)) in
           let x = fill (standingsOf (p .rec .slots)) g (omega (arith, t, run-room)) h in (
             ap (λ (c : ℕ). written.Count c) n ∙ sym k,

@@ -10,7 +10,7 @@ use lib.ListN.{length, getD, length-append}
 use Rattle.octets.specs.Octets.{le, flat, over}
 use Rattle.octets.proofs.Fill.{Filled, nothing, fill, filled-over, le-length, over-not}
 use Rattle.rules.specs.declared.types.Slot.{Slot}
-use Rattle.standing.specs.Standing.{standingOf, bytesOf}
+use Rattle.standing.specs.Standing.{standingOf, standingBytes}
 use Rattle.standing.specs.declared.types.Standing.{Standing}
 use Rattle.standing.proofs.Laying.{Laying, laying-start, laying-room, laying-next, laying-end}
 use Rattle.standing.proofs.Laying.{Adding, adding-start, adding-next, adding-end}
@@ -56,11 +56,11 @@ pub slot-length : (i : ℕ) (s : Slot) → length (slotBytes i s) ≡ slotSize s
 unfolding slotBytes
 slot-length i s = go (s .used)
   where
-    go : (used : Bool) → length (cond used (le 1 i ++ bytesOf (standingOf (s .path))) [])
-        ≡ cond used (1 + length (bytesOf (standingOf (s .path)))) 0
+    go : (used : Bool) → length (cond used (le 1 i ++ standingBytes (standingOf (s .path))) [])
+        ≡ cond used (1 + length (standingBytes (standingOf (s .path)))) 0
     go true =
-        length-append (le 1 i) (bytesOf (standingOf (s .path)))
-        ∙ ap (λ (n : ℕ). n + length (bytesOf (standingOf (s .path)))) (le-length 1 i)
+        length-append (le 1 i) (standingBytes (standingOf (s .path)))
+        ∙ ap (λ (n : ℕ). n + length (standingBytes (standingOf (s .path)))) (le-length 1 i)
     go false = refl
 
 -- it does not fit
@@ -71,40 +71,40 @@ slot-not i s {l} e h = sym (over-not (slotBytes i s) l (omega (arith, e, slot-le
 pub slot-none : (i : ℕ) (s : Slot) (l : List ℕ) → s .used ≡ false → l ≡ over (slotBytes i s) l
 unfolding slotBytes
 slot-none i s l e =
-    filled-over (nothing l) ∙ (λ j. over (cond (sym e j) (le 1 i ++ bytesOf (standingOf (s .path))) []) l)
+    filled-over (nothing l) ∙ (λ j. over (cond (sym e j) (le 1 i ++ standingBytes (standingOf (s .path))) []) l)
 
 -- its number, then its standing
 pub slot-told : (i : ℕ) (s : Slot) (l : List ℕ) {n : ℕ} → s .used ≡ true → n ≡ slotSize s → n ≤ length l
     → {m₁ : List ℕ} → m₁ ≡ over (le 1 i) (midOf 0 (length l - 0) l)
     → {t : Standing} {m₂ : List ℕ} → t ≡ standingOf (s .path)
-    → m₂ ≡ over (bytesOf t) (midOf 1 (length (putMid 0 (length l - 0) l m₁) - 1) (putMid 0 (length l - 0) l m₁))
+    → m₂ ≡ over (standingBytes t) (midOf 1 (length (putMid 0 (length l - 0) l m₁) - 1) (putMid 0 (length l - 0) l m₁))
     → putMid 1 (length (putMid 0 (length l - 0) l m₁) - 1) (putMid 0 (length l - 0) l m₁) m₂ ≡ over (slotBytes i s) l
 unfolding slotBytes le
 slot-told i s l {n} u e h {m₁} a {t} {m₂} q b =
-    let k : n ≡ 1 + length (bytesOf t) = e ∙ (λ j. cond (u j) (1 + length (bytesOf (sym q j))) 0) in
+    let k : n ≡ 1 + length (standingBytes t) = e ∙ (λ j. cond (u j) (1 + length (standingBytes (sym q j))) 0) in
     let f₁ : Filled l (le 1 i) (putMid 0 (length l - 0) l m₁) 1 =
     fill (le 1 i) (nothing l) (omega (arith, le-length 1 i, k, h)) a in
-    let f₂ = fill (bytesOf t) f₁ (omega (arith, le-length 1 i, k, h)) b in
+    let f₂ = fill (standingBytes t) f₁ (omega (arith, le-length 1 i, k, h)) b in
     filled-over f₂
-    ∙ ap (λ (t : Standing). over (le 1 i ++ bytesOf t) l) q
-    ∙ (λ j. over (cond (sym u j) (le 1 i ++ bytesOf (standingOf (s .path))) []) l)
+    ∙ ap (λ (t : Standing). over (le 1 i ++ standingBytes t) l) q
+    ∙ (λ j. over (cond (sym u j) (le 1 i ++ standingBytes (standingOf (s .path))) []) l)
 
 -- how many bytes one slot has
 pub size-open : (s : Slot) {t : Standing} {n : ℕ} → s .used ≡ true → t ≡ standingOf (s .path)
-    → (n ≡ length (bytesOf t)) × (n ≤ 51) → (1 + n ≡ slotSize s) × (1 + n ≤ 52)
+    → (n ≡ length (standingBytes t)) × (n ≤ 51) → (1 + n ≡ slotSize s) × (1 + n ≤ 52)
 size-open s {t} {n} u q e = (
-  (λ j. 1 + e .0 j) ∙ (λ j. 1 + length (bytesOf (q j)))
-      ∙ (λ j. cond (sym u j) (1 + length (bytesOf (standingOf (s .path)))) 0),
+  (λ j. 1 + e .0 j) ∙ (λ j. 1 + length (standingBytes (q j)))
+      ∙ (λ j. cond (sym u j) (1 + length (standingBytes (standingOf (s .path)))) 0),
   omega (arith, e .1),
 )
 
 pub size-empty : (s : Slot) → s .used ≡ false → (0 ≡ slotSize s) × (0 ≤ 52)
-size-empty s u = (λ j. cond (sym u j) (1 + length (bytesOf (standingOf (s .path)))) 0, omega arith)
+size-empty s u = (λ j. cond (sym u j) (1 + length (standingBytes (standingOf (s .path)))) 0, omega arith)
 
 pub size-some : (s : Slot) → s .used ≡ true → 1 ≤ slotSize s
 size-some s u =
-    let e : slotSize s ≡ 1 + length (bytesOf (standingOf (s .path))) =
-    λ j. cond (u j) (1 + length (bytesOf (standingOf (s .path)))) 0 in
+    let e : slotSize s ≡ 1 + length (standingBytes (standingOf (s .path))) =
+    λ j. cond (u j) (1 + length (standingBytes (standingOf (s .path)))) 0 in
     omega (arith, e)
 
 -- ---- eight slots

@@ -1,8 +1,7 @@
 -- What a file of events gives to a caller: the answer of each event, then the standings of the paths that are open at
 -- the end (document 01, "Files and tail"; "calls ours as C functions on numbers and bytes").
 use Prim.Native.Nat.{ℕ, suc, _+_}
-use mathlib.Core.Bool.{true, cond}
-use mathlib.Core.Path.{_≡_}
+use mathlib.Core.Bool.{cond}
 use mathlib.Core.List.{List, [], _∷_, _++_}
 use lib.Dec.{ltb}
 use lib.ListN.{length}
@@ -10,13 +9,12 @@ use Rattle.base.specs.declared.types.Refusal.{Refusal}
 use Rattle.base.specs.declared.types.Refusal.the-variants as refusal
 use Rattle.octets.specs.Octets.{le, flat, wordsOf, over}
 use Rattle.rules.specs.Step.{Entry, allowed, freshRecord, run, trace}
-use Rattle.rules.specs.Demand3.{Demand3, FewDraws}
 use Rattle.rules.specs.declared.types.Slot.{Slot}
 use Rattle.rules.specs.declared.types.Record.{Record}
-use Rattle.standing.specs.Standing.{standingOf, bytesOf, fit}
+use Rattle.standing.specs.Standing.{standingOf, standingBytes, fit}
 use Rattle.standing.specs.declared.types.Written.{Written}
 use Rattle.standing.specs.declared.types.Written.the-variants as written
-use Rattle.eventfile.specs.File.{settingsOf, eventsOf, Ending, Whole, Bad, endOf}
+use Rattle.eventfile.specs.File.{settingsOf, eventsOf, Ending, Whole, Bad, endingOf}
 use Rattle.eventrun.specs.declared.types.Verdict.{Verdict}
 use Rattle.eventrun.specs.declared.types.Verdict.the-variants as verdict
 use Rattle.eventrun.specs.declared.types.Scan.{Scan}
@@ -29,11 +27,11 @@ entryBytes x = wordsOf (x .number ∷ x .value ∷ [])
 
 -- an open slot: its number, u8, and its path's standing; an empty one gives nothing
 unfoldable pub slotBytes : ℕ → Slot → List ℕ
-slotBytes i s = cond (s .used) (le 1 i ++ bytesOf (standingOf (s .path))) []
+slotBytes i s = cond (s .used) (le 1 i ++ standingBytes (standingOf (s .path))) []
 
 -- how many bytes that is, whatever the number
 abbrev pub slotSize : Slot → ℕ
-slotSize s = cond (s .used) (1 + length (bytesOf (standingOf (s .path)))) 0
+slotSize s = cond (s .used) (1 + length (standingBytes (standingOf (s .path)))) 0
 
 -- the slots from number i on
 unfoldable pub standingsFrom : ℕ → List Slot → List ℕ
@@ -52,19 +50,19 @@ outputOf file =
 -- ---- refusals
 
 -- a record that cannot be read refuses the file
-abbrev pub verdictOf : Ending → Verdict
-verdictOf Whole = verdict.Whole
-verdictOf (Bad why kind) = verdict.Bad why
+abbrev pub endVerdict : Ending → Verdict
+endVerdict Whole = verdict.Whole
+endVerdict (Bad why kind) = verdict.Bad why
 
 abbrev pub endedBy : Verdict → Written → Written
 endedBy verdict.Whole w = w
 endedBy (verdict.Bad why) w = written.Refused why
 
 -- 13 where the settings are cut short, 6 where one is too large, then the first record that cannot be read, then 16
-unfoldable pub ranOf : List ℕ → ℕ → Written
-ranOf file lent =
+unfoldable pub fileWritten : List ℕ → ℕ → Written
+fileWritten file lent =
     cond (ltb (length file) 32) (written.Refused refusal.Cut)
-    (cond (allowed (settingsOf file)) (endedBy (verdictOf (endOf file)) (fit (outputOf file) lent))
+    (cond (allowed (settingsOf file)) (endedBy (endVerdict (endingOf file)) (fit (outputOf file) lent))
     (written.Refused refusal.Duration))
 
 -- a refusal writes nothing
@@ -73,29 +71,21 @@ outBy (written.Count n) new old = new
 outBy (written.Refused why) new old = old
 
 unfoldable pub outOf : List ℕ → List ℕ → List ℕ
-outOf file l = outBy (ranOf file (length l)) (over (outputOf file) l) l
-
--- ---- demand 3
-
--- "for every list of the fifteen events": the file's
-abbrev pub Keeps : List ℕ → Type 0
-Keeps file =
-    allowed (settingsOf file) ≡ true → FewDraws (settingsOf file) (eventsOf file)
-    → Demand3 (settingsOf file) (eventsOf file)
+outOf file l = outBy (fileWritten file (length l)) (over (outputOf file) l) l
 
 -- ---- the pass that writes nothing
 
 -- from a record: the record after the events, how many they are, and how the file's records end
-unfoldable pub scanOf : List ℕ → Record → Scan
-scanOf file r =
-    record { rec = run r (eventsOf file); count = length (eventsOf file); end = verdictOf (endOf file) }
+unfoldable pub passOf : List ℕ → Record → Scan
+passOf file r =
+    record { rec = run r (eventsOf file); count = length (eventsOf file); end = endVerdict (endingOf file) }
 
 -- where no record is made
-abbrev pub stopped : Record → Refusal → Scan
-stopped r why = record { rec = r; count = 0; end = verdict.Bad why }
+abbrev pub notRun : Record → Refusal → Scan
+notRun r why = record { rec = r; count = 0; end = verdict.Bad why }
 
 unfoldable pub planOf : List ℕ → Scan
 planOf file =
-    cond (ltb (length file) 32) (stopped (freshRecord (settingsOf file)) refusal.Cut)
-    (cond (allowed (settingsOf file)) (scanOf file (freshRecord (settingsOf file)))
-    (stopped (freshRecord (settingsOf file)) refusal.Duration))
+    cond (ltb (length file) 32) (notRun (freshRecord (settingsOf file)) refusal.Cut)
+    (cond (allowed (settingsOf file)) (passOf file (freshRecord (settingsOf file)))
+    (notRun (freshRecord (settingsOf file)) refusal.Duration))

@@ -5,7 +5,8 @@ ghost use lib.Dec.{leb};
 ghost use lib.ListN.{length};
 ghost use Rattle.rules.specs.Step.{freshRecord};
 ghost use Rattle.eventfile.specs.File.{settingsOf};
-ghost use Rattle.eventrun.specs.Runs.{planOf, ranOf, outOf, Keeps};
+ghost use Rattle.eventfile.specs.Claim.{FileDemand};
+ghost use Rattle.eventrun.specs.Runs.{planOf, fileWritten, outOf};
 use base::types::Refusal;
 use rules::types::*;
 use standing::types::Written;
@@ -61,8 +62,8 @@ fn fits(count: usize, told: usize, lent: usize) -> bool
 // Runs a file's events and writes each answer and, behind them, the standings of the open slots; says how many bytes.
 // 13, 6, 15, 14 and 16 write nothing. What demand 3 claims holds of these answers and of the record that they leave.
 pub fn run_events(file: &[u8], out: &mut [u8]) -> Written
-    ensures { λ r. ⌜ (r ≡ ranOf (now (file .entry)) (length (now (out .entry))))
-        × ((now (out .exit) ≡ outOf (now (file .entry)) (now (out .entry))) × Keeps (now (file .entry))) ⌝ }
+    ensures { λ r. ⌜ (r ≡ fileWritten (now (file .entry)) (length (now (out .entry))))
+        × ((now (out .exit) ≡ outOf (now (file .entry)) (now (out .entry))) × FileDemand (now (file .entry))) ⌝ }
 {
     let p = plan(file);
     let end = p.end;

@@ -5,14 +5,14 @@ ghost use lib.ListN.{length, take};
 ghost use Rattle.octets.specs.Octets.{flat, over};
 ghost use Rattle.rules.specs.Step.{trace};
 ghost use Rattle.eventfile.specs.File.{eventsOf};
-ghost use Rattle.eventrun.specs.Runs.{scanOf, entryBytes};
+ghost use Rattle.eventrun.specs.Runs.{passOf, entryBytes};
 use crate::types::*;
 use eventfile::types::Parse;
 use rules::types::*;
 
 // Runs the events and writes nothing.
 pub fn scan(file: &[u8], rec: Record) -> Scan
-    ensures { λ r. ⌜ r ≡ scanOf (now (file .entry)) rec ⌝ }
+    ensures { λ r. ⌜ r ≡ passOf (now (file .entry)) rec ⌝ }
 {
     let mut cur = rec;
     let mut count: usize = 0;

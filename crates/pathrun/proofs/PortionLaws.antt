@@ -8,7 +8,7 @@ use native.Mathlib.Omega.{arith}
 use lib.ListN.{length, drop, length-drop}
 use Rattle.base.proofs.Cases.{on-flag}
 use Rattle.pathrun.specs.Sessions.{begun, ranOf, lastOf}
-use Rattle.pathrun.specs.Portions.{Fed, behind, leftBy, calls, fed, joined, PortionsHold}
+use Rattle.pathrun.specs.Portions.{Fed, writtenBefore, leftBy, calls, fed, joined, PortionsHold}
 use Rattle.pathrun.specs.declared.types.Session.{Session}
 use Rattle.pathrun.proofs.SessionLaws.{owed, told, lines-short}
 
@@ -26,7 +26,7 @@ module _ (k : ℕ) (room : 1 ≤ k) where
   -- further calls after one that did
   done-more : (s : Session) (l : List ℕ) (d : Fed) → Done (ranOf k s l .run .session) (drop
       (ranOf k s l .run .place) l) d
-      → Done s l (behind (ranOf k s l .text) d)
+      → Done s l (writtenBefore (ranOf k s l .text) d)
   done-more s l d g =
       let r = ranOf k s l in
       record {
@@ -47,7 +47,7 @@ module _ (k : ℕ) (room : 1 ≤ k) where
       let r = ranOf k s l in
       let rest = drop (r .run .place) l in
       let P : Bool → Type 0 =
-      λ (b : Bool). Done s l (cond b (behind (r .text) (calls f k (r .run .session) rest)) (leftBy r l)) in
+      λ (b : Bool). Done s l (cond b (writtenBefore (r .text) (calls f k (r .run .session) rest)) (leftBy r l)) in
       on-flag (r .run .full)
       (λ e.
       let g = told k s l [] room .gone e in

@@ -26,7 +26,7 @@ use Rattle.eventfile.specs.declared.types.Parse.{Parse}
 use Rattle.eventfile.specs.declared.types.Parse.the-variants as parse
 use Rattle.lines.specs.Text.{lineOf, written}
 use Rattle.lines.proofs.TextLaws.{line-few}
-use Rattle.pathrun.specs.Sessions.{sessionOf, Ran, halted, eventLine, stillOf, stopLine}
+use Rattle.pathrun.specs.Sessions.{sessionOf, Ran, callEnd, eventLine, stillOf, stopLine}
 use Rattle.pathrun.specs.Sessions.{stopPhase, stopped, ranAt, stoppedAt, ranBy, ranFrom, laidAt}
 use Rattle.pathrun.specs.declared.types.Phase.the-variants as phase
 use Rattle.pathrun.specs.declared.types.Run.{Run}
@@ -164,7 +164,7 @@ module _ {l₀ l : List ℕ} {rec₀ : Record} {n₀ p₀ most : ℕ} {out : Lis
   unfolding ranFrom
   going-full {r} h q =
       let z : most - i ≡ 0 = omega arith in
-      let k : ranFrom (length l₀ / 84) l [] rec₀ n₀ p₀ ≡ halted (g .text) (sessionOf phase.Running rec n) p true =
+      let k : ranFrom (length l₀ / 84) l [] rec₀ n₀ p₀ ≡ callEnd (g .text) (sessionOf phase.Running rec n) p true =
       g .is ∙ (λ j. ranFrom (z j) l (g .text) rec n p) in (
         q ∙ (λ j. record {
           session = sessionOf phase.Running rec n;

@@ -16,12 +16,12 @@ use Rattle.octets.proofs.Read.{read-more}
 use Rattle.rules.specs.Step.{step, allowed, freshRecord, trace}
 use Rattle.rules.specs.declared.types.Record.{Record}
 use Rattle.rules.specs.declared.types.Settings.{Settings}
-use Rattle.eventfile.specs.File.{settingsOf, eventsOf, endOf, from, parseOf}
+use Rattle.eventfile.specs.File.{settingsOf, eventsOf, endingOf, from, parseOf}
 use Rattle.eventfile.specs.declared.types.Parse.{Parse}
 use Rattle.eventfile.specs.declared.types.Parse.the-variants as parse
 use Rattle.lines.specs.Text.{lineOf}
 use Rattle.pathrun.specs.Lines.{numberAfter, linesFrom, linesOf}
-use Rattle.pathrun.specs.Sessions.{sessionOf, overOf, Ran, halted, eventLine, stopLine, stopPhase}
+use Rattle.pathrun.specs.Sessions.{sessionOf, overOf, Ran, callEnd, eventLine, stopLine, stopPhase}
 use Rattle.pathrun.specs.Sessions.{stopped, ranBy, ranFrom, ranSettings, ranIn, ranOf, lastBy, lastOf}
 use Rattle.pathrun.specs.declared.types.Phase.{Phase}
 use Rattle.pathrun.specs.declared.types.Phase.the-variants as phase
@@ -50,7 +50,7 @@ pub record Told (l t whole : List ℕ) (at : ℕ) (r : Ran) : Type 0 where
 
 -- a line that ends the session
 over-at : (l t text line : List ℕ) {rest : List ℕ} (rec : Record) (n at low : ℕ) → at ≤ length l → rest ≡ line
-    → Told l t (text ++ rest) low (halted (text ++ line) (sessionOf phase.Over rec n) at false)
+    → Told l t (text ++ rest) low (callEnd (text ++ line) (sessionOf phase.Over rec n) at false)
 unfolding owed lastOf
 over-at l t text line {rest} rec n at low h e =
     record {
@@ -101,7 +101,7 @@ last-is l rec n at h =
     last-by (parseOf (drop at l) 0) rec n (walkAll (drop at l)) e ∙ sym (walk-open (drop at l) rec n 0)
 
 still : (l t text : List ℕ) (rec : Record) (n at low : ℕ) → at ≤ length l → isEvent (parseOf l at) ≡ false
-    → Told l t (text ++ walkAll (l ++ t) rec n at) low (halted text (sessionOf phase.Running rec n) at false)
+    → Told l t (text ++ walkAll (l ++ t) rec n at) low (callEnd text (sessionOf phase.Running rec n) at false)
 still l t text rec n at low h e =
     record {
       same = stops l t text rec n at h;
@@ -131,7 +131,7 @@ rest-at : (x : Parse) (f : ℕ) (l t text : List ℕ) (rec : Record) (n at : ℕ
 rest-at x f l t text rec n at h e v a b =
     let g : text ≡ text ++ stopLine x n = sym (ap (λ (z : List ℕ). text ++ z) a ∙ append-nil text) in
     subst (λ (r : Ran). Told l t (text ++ walkAll (l ++ t) rec n at) (at + 3 * suc f) r)
-    (λ j. halted (g j) (sessionOf (sym b j) rec n) at false)
+    (λ j. callEnd (g j) (sessionOf (sym b j) rec n) at false)
     (still l t text rec n at (at + 3 * suc f) h (ap isEvent e ∙ v))
 
 -- one record and, by the law for f, those after it
@@ -150,7 +150,7 @@ turn (parse.Refused why k) f l t text rec n at h e ih =
     let p : parseOf (l ++ t) at ≡ parse.Refused why k = refused-stays l t at (λ z. never (eq-eqb
     (refusalNumber why) 13 z) c) e in
     subst (λ (b : Bool). Told l t (text ++ walkAll (l ++ t) rec n at) (at + 3 * suc f)
-    (halted (text ++ cond b [] line) (sessionOf (cond b phase.Running phase.Over) rec n) at false)) (sym c)
+    (callEnd (text ++ cond b [] line) (sessionOf (cond b phase.Running phase.Over) rec n) at false)) (sym c)
     (over-at l t text line rec n at (at + 3 * suc f) h
     (walk-open (l ++ t) rec n at ∙ (λ j. walkBy (p j) (walkAll (l ++ t)) rec n))))
 turn (parse.Event v next) f l t text rec n at h e ih =
@@ -194,24 +194,24 @@ settings-more l t h =
 pub lines-long : (l t : List ℕ) → 32 ≤ length l
     → linesOf (l ++ t) ≡ cond (allowed (settingsOf l)) (walkAll (l ++ t) (freshRecord (settingsOf l)) 1 32)
     (lineOf 0 0 6 0)
-unfolding linesOf eventsOf endOf
+unfolding linesOf eventsOf endingOf
 lines-long l t h =
     let w = l ++ t in
     let a : 32 ≤ length w = omega (arith, length-append l t) in
     let s = settings-more l t h in
     (λ j. cond (le-ltb (length w) 32 a j) (lineOf 0 0 13 0)
-    (cond (allowed (s j)) (linesFrom 1 (trace (freshRecord (s j)) (eventsOf w)) (endOf w)) (lineOf 0 0 6 0)))
+    (cond (allowed (s j)) (linesFrom 1 (trace (freshRecord (s j)) (eventsOf w)) (endingOf w)) (lineOf 0 0 6 0)))
     ∙ (λ j. cond (allowed (settingsOf l)) (walk-is (length w) w (freshRecord (settingsOf l)) 1 32 j) (lineOf 0 0 6 0))
 
 pub lines-short : (l : List ℕ) → length l < 32 → lineOf 0 0 13 0 ≡ linesOf l
 unfolding linesOf
 lines-short l h =
     sym (λ j. cond (lt-ltb (length l) 32 h j) (lineOf 0 0 13 0)
-    (cond (allowed (settingsOf l)) (linesFrom 1 (trace (freshRecord (settingsOf l)) (eventsOf l)) (endOf l))
+    (cond (allowed (settingsOf l)) (linesFrom 1 (trace (freshRecord (settingsOf l)) (eventsOf l)) (endingOf l))
     (lineOf 0 0 6 0)))
 
 short : (k : ℕ) (rec : Record) (n : ℕ) (l t : List ℕ) → length l < 32
-    → Told l t (linesOf (l ++ t)) (3 * k) (halted [] (sessionOf phase.Settings rec n) 0 false)
+    → Told l t (linesOf (l ++ t)) (3 * k) (callEnd [] (sessionOf phase.Settings rec n) 0 false)
 unfolding owed lastOf
 short k rec n l t h =
     record { same = refl; within = omega arith; rests = λ q. lines-short l h; gone = λ q. never q refl; count = refl }
@@ -222,9 +222,9 @@ told-settings k rec n l t =
     let s = sessionOf phase.Settings rec n in
     let u = settingsOf l in
     let go = ranFrom k l [] (freshRecord u) 1 32 in
-    let bad = halted (lineOf 0 0 6 0) (overOf s) 0 false in
+    let bad = callEnd (lineOf 0 0 6 0) (overOf s) 0 false in
     let G : List ℕ → Bool → Bool → Type 0 =
-    λ (w : List ℕ) (a b : Bool). Told l t w (3 * k) (cond a (halted [] s 0 false) (cond b go bad)) in
+    λ (w : List ℕ) (a b : Bool). Told l t w (3 * k) (cond a (callEnd [] s 0 false) (cond b go bad)) in
     on-order (length l) 32
     (λ h. subst (λ (a : Bool). G (linesOf (l ++ t)) a (allowed u)) (sym (lt-ltb (length l) 32 h)) (short k rec n l t h))
     (λ h.
@@ -240,7 +240,7 @@ told-settings k rec n l t =
 
 -- ---- any session
 
-over-still : (k : ℕ) (rec : Record) (n : ℕ) (l t : List ℕ) → Told l t [] (3 * k) (halted []
+over-still : (k : ℕ) (rec : Record) (n : ℕ) (l t : List ℕ) → Told l t [] (3 * k) (callEnd []
     (sessionOf phase.Over rec n) 0 false)
 unfolding owed lastOf
 over-still k rec n l t = record {
@@ -255,7 +255,7 @@ over-still k rec n l t = record {
 pub told : (k : ℕ) (s : Session) (l t : List ℕ) → 1 ≤ k → Told l t (owed s (l ++ t)) (3 * k) (ranOf k s l)
 unfolding owed ranOf
 told k s l t h =
-    subst (λ (b : Bool). Told l t (owedIn (s .phase) s (l ++ t)) (3 * k) (cond b (halted [] s 0 true) (ranIn
+    subst (λ (b : Bool). Told l t (owedIn (s .phase) s (l ++ t)) (3 * k) (cond b (callEnd [] s 0 true) (ranIn
     (s .phase) k s l)))
     (sym (ne-eqb k 0 (λ e. omega (arith, e)))) (go (s .phase) (s .rec) (s .number))
   where

@@ -19,7 +19,7 @@ use Rattle.rules.specs.declared.types.Reply.the-variants as reply
 use Rattle.eventfile.specs.File.{settingsOf}
 use Rattle.lines.specs.Text.{lineOf, written}
 use Rattle.lines.proofs.TextLaws.{line-few, all-written}
-use Rattle.pathrun.specs.Sessions.{overOf, Ran, halted, stayed, ranFrom, ranIn, ranOf}
+use Rattle.pathrun.specs.Sessions.{overOf, Ran, callEnd, stayed, ranFrom, ranIn, ranOf}
 use Rattle.pathrun.specs.declared.types.Phase.{Phase}
 use Rattle.pathrun.specs.declared.types.Phase.the-variants as phase
 use Rattle.pathrun.specs.declared.types.Session.{Session}
@@ -33,39 +33,39 @@ pub step-as : (k : ℕ) (s : Session) (l o : List ℕ) {a : Ran} {r : Run} {m : 
 step-as k s l o e x y = (x ∙ (λ j. sym e j .run), y ∙ (λ j. over (sym e j .text) o))
 
 -- a call that writes nothing
-pub step-stay : (k : ℕ) (s : Session) (l o : List ℕ) (full : Bool) {r : Run} → ranOf k s l ≡ halted [] s 0 full
+pub step-stay : (k : ℕ) (s : Session) (l o : List ℕ) (full : Bool) {r : Run} → ranOf k s l ≡ callEnd [] s 0 full
     → r ≡ stayed s full
     → (r ≡ ranOf k s l .run) × (o ≡ over (ranOf k s l .text) o)
 step-stay k s l o full e q = step-as k s l o e q (none-laid o .1)
 
 -- no room for a line
-pub ran-small : (o : List ℕ) (s : Session) (l : List ℕ) → length o < 84 → ranOf (length o / 84) s l ≡ halted [] s 0 true
+pub ran-small : (o : List ℕ) (s : Session) (l : List ℕ) → length o < 84 → ranOf (length o / 84) s l ≡ callEnd [] s 0 true
 unfolding ranOf
 ran-small o s l h =
     let z : length o / 84 ≡ 0 = omega arith in
-    λ j. cond (eq-eqb (length o / 84) 0 z j) (halted [] s 0 true) (ranIn (s .phase) (length o / 84) s l)
+    λ j. cond (eq-eqb (length o / 84) 0 z j) (callEnd [] s 0 true) (ranIn (s .phase) (length o / 84) s l)
 
 -- room for one: by the phase
 pub ran-in : (o : List ℕ) (s : Session) (l : List ℕ) {p : Phase} → 84 ≤ length o → s .phase ≡ p
     → ranOf (length o / 84) s l ≡ ranIn p (length o / 84) s l
 unfolding ranOf
 ran-in o s l h e =
-    (λ j. cond (ne-eqb (length o / 84) 0 (λ z. omega (arith, z)) j) (halted [] s 0 true) (ranIn (s .phase)
+    (λ j. cond (ne-eqb (length o / 84) 0 (λ z. omega (arith, z)) j) (callEnd [] s 0 true) (ranIn (s .phase)
     (length o / 84) s l))
     ∙ (λ j. ranIn (e j) (length o / 84) s l)
 
 module _ (o : List ℕ) (s : Session) (l : List ℕ) (h : 84 ≤ length o) (e : s .phase ≡ phase.Settings) where
   settings-by : {a b : Bool} → ltb (length l) 32 ≡ a → allowed (settingsOf l) ≡ b
       → ranOf (length o / 84) s l
-      ≡ cond a (halted [] s 0 false) (cond b (ranFrom (length o / 84) l [] (freshRecord (settingsOf l)) 1 32)
-      (halted (lineOf 0 0 6 0) (overOf s) 0 false))
+      ≡ cond a (callEnd [] s 0 false) (cond b (ranFrom (length o / 84) l [] (freshRecord (settingsOf l)) 1 32)
+      (callEnd (lineOf 0 0 6 0) (overOf s) 0 false))
   settings-by x y =
       ran-in o s l h e
-      ∙ (λ j. cond (x j) (halted [] s 0 false)
-      (cond (y j) (ranFrom (length o / 84) l [] (freshRecord (settingsOf l)) 1 32) (halted (lineOf 0 0 6 0)
+      ∙ (λ j. cond (x j) (callEnd [] s 0 false)
+      (cond (y j) (ranFrom (length o / 84) l [] (freshRecord (settingsOf l)) 1 32) (callEnd (lineOf 0 0 6 0)
       (overOf s) 0 false)))
 
-  pub ran-short : length l < 32 → ranOf (length o / 84) s l ≡ halted [] s 0 false
+  pub ran-short : length l < 32 → ranOf (length o / 84) s l ≡ callEnd [] s 0 false
   ran-short k = settings-by (lt-ltb (length l) 32 k) refl
 
   pub ran-fresh : 32 ≤ length l → allowed (settingsOf l) ≡ true
@@ -73,7 +73,7 @@ module _ (o : List ℕ) (s : Session) (l : List ℕ) (h : 84 ≤ length o) (e : 
   ran-fresh k y = settings-by (le-ltb (length l) 32 k) y
 
   pub ran-large : 32 ≤ length l → allowed (settingsOf l) ≡ false
-      → ranOf (length o / 84) s l ≡ halted (lineOf 0 0 6 0) (overOf s) 0 false
+      → ranOf (length o / 84) s l ≡ callEnd (lineOf 0 0 6 0) (overOf s) 0 false
   ran-large k y = settings-by (le-ltb (length l) 32 k) y
 
 -- the records after settings that are allowed
@@ -88,7 +88,7 @@ step-fresh o s l h e k y q d =
 
 -- the line of settings that are too large
 pub step-large : (s : Session) (l o : List ℕ) {w : ℕ} {m : List ℕ} → 84 ≤ length o
-    → ranOf (length o / 84) s l ≡ halted (lineOf 0 0 6 0) (overOf s) 0 false → w ≡ written (lineOf 0 0 6 0) o
+    → ranOf (length o / 84) s l ≡ callEnd (lineOf 0 0 6 0) (overOf s) 0 false → w ≡ written (lineOf 0 0 6 0) o
     → m ≡ over (lineOf 0 0 6 0) o
     → (_≡_ {A = Run} (record { session = overOf s; place = 0; wrote = w; full = false }) (ranOf
     (length o / 84) s l .run))

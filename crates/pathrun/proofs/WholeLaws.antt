@@ -25,7 +25,8 @@ use Rattle.lines.specs.Text.{lineOf, written}
 use Rattle.lines.proofs.TextLaws.{line-few}
 use Rattle.pathrun.specs.Lines.{numberAfter, linesOf}
 use Rattle.pathrun.specs.Sessions.{begun, eventLine, ranOf, lastOf}
-use Rattle.pathrun.specs.Whole.{hasRoom, fileText, fileReply, FileDemand}
+use Rattle.eventfile.specs.Claim.{FileDemand}
+use Rattle.pathrun.specs.Whole.{hasRoom, fileText, fileReply}
 use Rattle.pathrun.specs.declared.types.Session.{Session}
 use Rattle.pathrun.specs.declared.types.Run.{Run}
 use Rattle.pathrun.specs.declared.types.Written.the-variants as reply

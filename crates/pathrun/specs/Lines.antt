@@ -6,7 +6,7 @@ use lib.Dec.{ltb}
 use lib.ListN.{length}
 use Rattle.base.specs.Refusals.{refusalNumber}
 use Rattle.rules.specs.Step.{Entry, allowed, freshRecord, trace}
-use Rattle.eventfile.specs.File.{Ending, Whole, Bad, settingsOf, eventsOf, endOf}
+use Rattle.eventfile.specs.File.{Ending, Whole, Bad, settingsOf, eventsOf, endingOf}
 use Rattle.lines.specs.Text.{lineOf}
 
 -- "Each line: record number, kind, refusal or 0, value."
@@ -33,4 +33,4 @@ unfoldable pub linesOf : List ℕ → List ℕ
 linesOf l =
     cond (ltb (length l) 32) (lineOf 0 0 13 0)
     (cond (allowed (settingsOf l))
-    (linesFrom 1 (trace (freshRecord (settingsOf l)) (eventsOf l)) (endOf l)) (lineOf 0 0 6 0))
+    (linesFrom 1 (trace (freshRecord (settingsOf l)) (eventsOf l)) (endingOf l)) (lineOf 0 0 6 0))

@@ -15,8 +15,8 @@ pub record Fed : Type 0 where
   pub held : List ℕ
 
 -- with text written before
-abbrev pub behind : List ℕ → Fed → Fed
-behind text d = record { text = text ++ d .text; session = d .session; held = d .held }
+abbrev pub writtenBefore : List ℕ → Fed → Fed
+writtenBefore text d = record { text = text ++ d .text; session = d .session; held = d .held }
 
 -- what a call leaves: the bytes from its place on are held
 abbrev pub leftBy : Ran → List ℕ → Fed
@@ -27,7 +27,7 @@ unfoldable pub calls : ℕ → ℕ → Session → List ℕ → Fed
 calls zero k s l = leftBy (ranOf k s l) l
 calls (suc f) k s l =
     cond (ranOf k s l .run .full)
-    (behind (ranOf k s l .text) (calls f k (ranOf k s l .run .session) (drop (ranOf k s l .run .place) l)))
+    (writtenBefore (ranOf k s l .text) (calls f k (ranOf k s l .run .session) (drop (ranOf k s l .run .place) l)))
     (leftBy (ranOf k s l) l)
 
 -- each portion comes behind the bytes held; after the last one the session is finished

@@ -49,8 +49,8 @@ pub record Ran : Type 0 where
   pub run : Run
 
 -- a call ends: with this text, in this session, with so many bytes read, and for want of room or not
-abbrev pub halted : List ℕ → Session → ℕ → Bool → Ran
-halted text s at full =
+abbrev pub callEnd : List ℕ → Session → ℕ → Bool → Ran
+callEnd text s at full =
     record { text = text; run = record { session = s; place = at; wrote = length text; full = full } }
 
 -- the line of an event
@@ -74,7 +74,7 @@ stopPhase (parse.Event e next) = phase.Running
 stopPhase (parse.Refused why k) = cond (eqb (refusalNumber why) 13) phase.Running phase.Over
 
 abbrev pub stopped : Parse → List ℕ → Record → ℕ → ℕ → Ran
-stopped x text rec n at = halted (text ++ stopLine x n) (sessionOf (stopPhase x) rec n) at false
+stopped x text rec n at = callEnd (text ++ stopLine x n) (sessionOf (stopPhase x) rec n) at false
 
 -- what stands at a place, after the text so far; by `more` come the records after an event
 abbrev pub ranBy : Parse → (List ℕ → Record → ℕ → ℕ → Ran) → List ℕ → Record → ℕ → ℕ → Ran
@@ -85,28 +85,28 @@ ranBy (parse.Event e next) more text rec n at =
 
 -- at most f records, from a place on
 unfoldable pub ranFrom : ℕ → List ℕ → List ℕ → Record → ℕ → ℕ → Ran
-ranFrom zero l text rec n at = halted text (sessionOf phase.Running rec n) at true
+ranFrom zero l text rec n at = callEnd text (sessionOf phase.Running rec n) at true
 ranFrom (suc f) l text rec n at = ranBy (parseOf l at) (ranFrom f l) text rec n at
 
 -- the settings, once their 32 bytes are there, and the records after them
 abbrev pub ranSettings : ℕ → Session → List ℕ → Ran
 ranSettings f s l =
-    cond (ltb (length l) 32) (halted [] s 0 false)
+    cond (ltb (length l) 32) (callEnd [] s 0 false)
     (cond (allowed (settingsOf l)) (ranFrom f l [] (freshRecord (settingsOf l)) 1 32)
-    (halted (lineOf 0 0 6 0) (overOf s) 0 false))
+    (callEnd (lineOf 0 0 6 0) (overOf s) 0 false))
 
 abbrev pub ranIn : Phase → ℕ → Session → List ℕ → Ran
 ranIn phase.Settings f s l = ranSettings f s l
 ranIn phase.Running f s l = ranFrom f l [] (s .rec) (s .number) 0
-ranIn phase.Over f s l = halted [] s 0 false
+ranIn phase.Over f s l = callEnd [] s 0 false
 
 -- a call on the bytes held, which writes at most f lines
 unfoldable pub ranOf : ℕ → Session → List ℕ → Ran
-ranOf f s l = cond (eqb f 0) (halted [] s 0 true) (ranIn (s .phase) f s l)
+ranOf f s l = cond (eqb f 0) (callEnd [] s 0 true) (ranIn (s .phase) f s l)
 
 -- the answer of a call that reads and writes nothing
 abbrev pub stayed : Session → Bool → Run
-stayed s full = halted [] s 0 full .run
+stayed s full = callEnd [] s 0 full .run
 
 -- a line has at most 84 bytes: four numbers of at most 20 places, a byte behind each
 abbrev pub linesIn : List ℕ → ℕ

@@ -1,14 +1,11 @@
--- A whole file in lent bytes: its lines, and demand 3 of its events.
+-- A whole file in lent bytes: its lines. They are those of `trace`, so that demand 3 of the file's events
+-- (eventfile/specs/Claim.antt) speaks of them.
 use Prim.Native.Nat.{ℕ, _/_}
-use mathlib.Core.Bool.{Bool, true, cond}
+use mathlib.Core.Bool.{Bool, cond}
 use mathlib.Core.List.{List, []}
-use mathlib.Core.Path.{_≡_}
 use lib.Dec.{ltb}
 use lib.ListN.{length}
 use Rattle.base.specs.declared.types.Refusal.the-variants as refusal
-use Rattle.rules.specs.Step.{allowed}
-use Rattle.rules.specs.Demand3.{FewDraws, Demand3}
-use Rattle.eventfile.specs.File.{settingsOf, eventsOf}
 use Rattle.pathrun.specs.Lines.{linesOf}
 use Rattle.pathrun.specs.Sessions.{linesIn}
 use Rattle.pathrun.specs.declared.types.Written.{Written}
@@ -24,8 +21,3 @@ fileText l out = cond (hasRoom l out) (linesOf l) []
 
 abbrev pub fileReply : List ℕ → List ℕ → Written
 fileReply l out = cond (hasRoom l out) (written.Bytes (length (linesOf l))) (written.Refused refusal.Lent)
-
--- `linesOf` has the lines of `trace` from a fresh record with these settings, over these events: demand 3 holds of them
-abbrev pub FileDemand : List ℕ → Type 0
-FileDemand l =
-    allowed (settingsOf l) ≡ true → FewDraws (settingsOf l) (eventsOf l) → Demand3 (settingsOf l) (eventsOf l)

@@ -1,7 +1,8 @@
 // A whole file in lent bytes: the claim about every list of events reaches the code.
 ghost use mathlib.Core.Path.{_≡_};
 ghost use Rattle.octets.specs.Octets.{over};
-ghost use Rattle.pathrun.specs.Whole.{fileText, fileReply, FileDemand};
+ghost use Rattle.eventfile.specs.Claim.{FileDemand};
+ghost use Rattle.pathrun.specs.Whole.{fileText, fileReply};
 use crate::session::begin;
 use crate::session::finish;
 use crate::session::step;

@@ -19,7 +19,7 @@ use Rattle.octets.specs.Octets.{le, flat}
 use Rattle.octets.proofs.Fill.{le-length, flat-append}
 use Rattle.image.specs.Image.{etxBits}
 use Rattle.standing.specs.Standing.{wholeField, timeField, idField, lenField, fieldsOf, mapOf, partsOf, widthOf}
-use Rattle.standing.specs.Standing.{bytesIn, bytesOf}
+use Rattle.standing.specs.Standing.{bytesIn, standingBytes}
 use Rattle.standing.specs.declared.types.Standing.{Standing}
 use Rattle.standing.specs.declared.types.Field.{Field}
 
@@ -38,8 +38,8 @@ flat-widths (f ∷ l) =
     ∙ (λ i. le-length (widthOf (f .on) (f .width)) (f .value) i + flat-widths l i)
 
 -- 13 for the map, the ETX and the misses, and the widths of the bits that stand
-pub size-is : (s : Standing) → length (bytesOf s) ≡ 13 + widths (fieldsOf s)
-unfolding bytesOf
+pub size-is : (s : Standing) → length (standingBytes s) ≡ 13 + widths (fieldsOf s)
+unfolding standingBytes
 size-is s = flat-widths (partsOf s) ∙ omega arith
 
 time-width : (x : MaybeTime) → widthOf (timeField x .on) (timeField x .width) ≤ 8
@@ -54,10 +54,10 @@ len-width : (x : MaybeLen) → widthOf (lenField x .on) (lenField x .width) ≤ 
 len-width len.None = omega arith
 len-width (len.Some n) = omega arith
 
-pub size-least : (s : Standing) → 13 ≤ length (bytesOf s)
+pub size-least : (s : Standing) → 13 ≤ length (standingBytes s)
 size-least s = omega (arith, size-is s)
 
-pub size-most : (s : Standing) → length (bytesOf s) ≤ 51
+pub size-most : (s : Standing) → length (standingBytes s) ≤ 51
 size-most s =
     omega (
       arith,
@@ -110,10 +110,10 @@ kept (f ∷ l) = go (f .on) refl (kept l)
     go false e k = rw e k
 
 -- the map in one byte, the fields whose bits stand, then the ETX and the misses
-pub bytes-are : (s : Standing) → bytesOf s ≡ mapOf (map (λ f. f .on) (fieldsOf s))
+pub bytes-are : (s : Standing) → standingBytes s ≡ mapOf (map (λ f. f .on) (fieldsOf s))
     ∷ (flat (λ (f : Field). le (f .width) (f .value)) (keep (λ f. f .on) (fieldsOf s))
     ++ (le 8 (etxBits (s .etx)) ++ le 4 (s .misses)))
-unfolding bytesOf flat le
+unfolding standingBytes flat le
 bytes-are s =
     let m = mapOf (map (λ f. f .on) (fieldsOf s)) in
     let a : m % 256 ≡ m = omega (arith, map-below (map (λ f. f .on) (fieldsOf s))) in

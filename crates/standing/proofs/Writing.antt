@@ -14,33 +14,33 @@ use Rattle.rules.specs.Rules.{emptySlot}
 use Rattle.rules.specs.Step.{slotAt}
 use Rattle.rules.specs.declared.types.Slot.{Slot}
 use Rattle.rules.specs.declared.types.Record.{Record}
-use Rattle.standing.specs.Standing.{standingOf, partsOf, bytesIn, bytesOf, writtenOf, slotWritten, slotOut}
+use Rattle.standing.specs.Standing.{standingOf, partsOf, bytesIn, standingBytes, writtenOf, slotWritten, slotOut}
 use Rattle.standing.specs.declared.types.Standing.{Standing}
 use Rattle.standing.specs.declared.types.Field.{Field}
 use Rattle.standing.specs.declared.types.Written.{Written}
 use Rattle.standing.specs.declared.types.Written.the-variants as written
 
 module _ (s : Standing) (l : List ℕ) (fs : List Field) (e : fs ≡ partsOf s) where
-  bytes : flat bytesIn fs ≡ bytesOf s
-  unfolding bytesOf
+  bytes : flat bytesIn fs ≡ standingBytes s
+  unfolding standingBytes
   bytes = ap (flat bytesIn) e
 
   -- too few bytes are lent
   pub written-not : {n : ℕ} → n ≡ length (flat bytesIn fs) → length l < n
-      → (written.Refused refusal.Lent ≡ writtenOf s (length l)) × (l ≡ over (bytesOf s) l)
+      → (written.Refused refusal.Lent ≡ writtenOf s (length l)) × (l ≡ over (standingBytes s) l)
   unfolding writtenOf
   written-not {n} q h =
-      let k : length l < length (bytesOf s) = omega (arith, q, ap length bytes) in
-      (rw (lt-leb (length (bytesOf s)) (length l) k), sym (over-not (bytesOf s) l k))
+      let k : length l < length (standingBytes s) = omega (arith, q, ap length bytes) in
+      (rw (lt-leb (length (standingBytes s)) (length l) k), sym (over-not (standingBytes s) l k))
 
   -- all is written
   pub written-whole : {m : List ℕ} {at : ℕ} → Filled l (flat bytesIn fs) m at
-      → (written.Count at ≡ writtenOf s (length l)) × (m ≡ over (bytesOf s) l)
+      → (written.Count at ≡ writtenOf s (length l)) × (m ≡ over (standingBytes s) l)
   unfolding writtenOf
   written-whole {m} {at} f =
-      let q : length (bytesOf s) ≡ at = ap length (sym bytes) ∙ f .long in
-      let k : length (bytesOf s) ≤ length l = omega (arith, q, f .room) in (
-        rw (le-leb (length (bytesOf s)) (length l) k) (ap (λ (n : ℕ). written.Count n) (sym q)),
+      let q : length (standingBytes s) ≡ at = ap length (sym bytes) ∙ f .long in
+      let k : length (standingBytes s) ≤ length l = omega (arith, q, f .room) in (
+        rw (le-leb (length (standingBytes s)) (length l) k) (ap (λ (n : ℕ). written.Count n) (sym q)),
         filled-over f ∙ ap (λ (b : List ℕ). over b l) bytes,
       )
 
@@ -68,12 +68,12 @@ module _ (r : Record) (i : ℕ) (l : List ℕ) where
         (simp (le-ltb 7 i h, u), simp (le-ltb 7 i h, u))
 
     pub slot-told : getD (r .slots) i d .used ≡ true → {s : Standing} → s ≡ standingOf (getD (r .slots) i d .path)
-        → {w : Written} {m : List ℕ} → (w ≡ writtenOf s (length l)) × (m ≡ over (bytesOf s) l)
+        → {w : Written} {m : List ℕ} → (w ≡ writtenOf s (length l)) × (m ≡ over (standingBytes s) l)
         → (w ≡ slotWritten r i (length l)) × (m ≡ slotOut r i l)
     unfolding slotWritten slotOut
     slot-told e {s} q {w} {m} k =
         let u : slotAt r i .used ≡ true = ap (λ (s : Slot). s .used) inside ∙ e in
         let p : s ≡ standingOf (slotAt r i .path) = q ∙ ap (λ (s : Slot). standingOf (s .path)) (sym inside) in (
           rw (le-ltb 7 i h, u) (k .0 ∙ ap (λ (z : Standing). writtenOf z (length l)) p),
-          rw (le-ltb 7 i h, u) (k .1 ∙ ap (λ (z : Standing). over (bytesOf z) l) p),
+          rw (le-ltb 7 i h, u) (k .1 ∙ ap (λ (z : Standing). over (standingBytes z) l) p),
         )

@@ -89,15 +89,15 @@ abbrev pub widthOf : Bool → ℕ → ℕ
 widthOf on w = cond on w 0
 
 -- the bytes of a field, the lowest first; none where it is missing
-abbrev pub fieldBytes : Bool → ℕ → ℕ → List ℕ
-fieldBytes on w x = le (widthOf on w) x
+abbrev pub partBytes : Bool → ℕ → ℕ → List ℕ
+partBytes on w x = le (widthOf on w) x
 
 abbrev pub bytesIn : Field → List ℕ
-bytesIn f = fieldBytes (f .on) (f .width) (f .value)
+bytesIn f = partBytes (f .on) (f .width) (f .value)
 
 -- "Each field is written into the part of the lent bytes that starts after the field before it."
-unfoldable pub bytesOf : Standing → List ℕ
-bytesOf s = flat bytesIn (partsOf s)
+unfoldable pub standingBytes : Standing → List ℕ
+standingBytes s = flat bytesIn (partsOf s)
 
 -- ---- what a writer says
 
@@ -107,7 +107,7 @@ fit bytes lent = cond (leb (length bytes) lent) (written.Count (length bytes)) (
 
 -- "bytes past it are unchanged", and all of them where it is refused: the lent bytes l are then `over (bytesOf s) l`
 unfoldable pub writtenOf : Standing → ℕ → Written
-writtenOf s lent = fit (bytesOf s) lent
+writtenOf s lent = fit (standingBytes s) lent
 
 -- of a slot: 1 above 7, 2 where it is empty, then 16
 unfoldable pub slotWritten : Record → ℕ → ℕ → Written
@@ -117,4 +117,4 @@ slotWritten r i lent =
 
 -- a refusal leaves the lent bytes as they are
 unfoldable pub slotOut : Record → ℕ → List ℕ → List ℕ
-slotOut r i l = cond (ltb 7 i || not (slotAt r i .used)) l (over (bytesOf (standingOf (slotAt r i .path))) l)
+slotOut r i l = cond (ltb 7 i || not (slotAt r i .used)) l (over (standingBytes (standingOf (slotAt r i .path))) l)

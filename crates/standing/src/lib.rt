@@ -3,7 +3,7 @@ ghost use mathlib.Core.Path.{_≡_};
 ghost use Prim.Native.Nat.{_≤_};
 ghost use lib.ListN.{length};
 ghost use Rattle.octets.specs.Octets.{flat, over};
-ghost use Rattle.standing.specs.Standing.{standingOf, fieldBytes, bytesIn, bytesOf, writtenOf, slotWritten};
+ghost use Rattle.standing.specs.Standing.{standingOf, partBytes, bytesIn, standingBytes, writtenOf, slotWritten};
 ghost use Rattle.standing.specs.Standing.{slotOut, widthOf};
 use base::types::*;
 use live::types::Liveness;
@@ -45,7 +45,7 @@ fn width(on: bool, w: u8) -> usize
 
 // Writes a field over the front of `out`, or nothing where it is missing or does not fit; says how many bytes it has.
 fn field(out: &mut [u8], on: bool, w: u8, x: u64) -> usize
-    ensures { λ r. ⌜ (r ≡ widthOf on w) × (now (out .exit) ≡ over (fieldBytes on w x) (now (out .entry))) ⌝ }
+    ensures { λ r. ⌜ (r ≡ widthOf on w) × (now (out .exit) ≡ over (partBytes on w x) (now (out .entry))) ⌝ }
 {
     let n = width(on, w);
     octets::put(out, n, x);
@@ -68,7 +68,7 @@ fn total(parts: [Field; 9]) -> usize
 
 // The bytes of a standing.
 pub fn size(s: Standing) -> usize
-    ensures { λ r. ⌜ (r ≡ length (bytesOf s)) × (r ≤ 51) ⌝ }
+    ensures { λ r. ⌜ (r ≡ length (standingBytes s)) × (r ≤ 51) ⌝ }
 {
     let parts = layout::parts(s);
     total(parts)
@@ -78,7 +78,7 @@ pub fn size(s: Standing) -> usize
 // goes into the part that starts after the field before it.
 pub fn write(s: Standing, out: &mut [u8]) -> Written
     ensures { λ r. ⌜ (r ≡ writtenOf s (length (now (out .entry))))
-        × (now (out .exit) ≡ over (bytesOf s) (now (out .entry))) ⌝ }
+        × (now (out .exit) ≡ over (standingBytes s) (now (out .entry))) ⌝ }
 {
     let parts = layout::parts(s);
     if out.len() < total(parts) {

@@ -5,7 +5,7 @@ use native.Mathlib.Omega.{arith}
 use lib.ListN.{length}
 use mathlib.Core.List.{List}
 use Rattle.octets.specs.Octets.{flat}
-use Rattle.standing.specs.Standing.{bytesIn, bytesOf}
+use Rattle.standing.specs.Standing.{bytesIn, standingBytes}
 use Rattle.standing.specs.declared.types.Field.{Field}
 use Rattle.standing.proofs.Bytes.{size-most}
 use borrow.Author.Needs.{needs}
@@ -19,10 +19,10 @@ total-requires : tie.Need-total-requires
 total-requires c κs = search needs
 
 returns : tie.Need-returns
-unfolding bytesOf
+unfolding standingBytes
 returns c =
     let s = c .before .before .args .s in
-    let e : c .total .result ≡ length (bytesOf s) = c .total .ensures ∙ ap (λ (l : List Field). length (flat bytesIn l)) (c .before .parts .ensures) in
+    let e : c .total .result ≡ length (standingBytes s) = c .total .ensures ∙ ap (λ (l : List Field). length (flat bytesIn l)) (c .before .parts .ensures) in
     (e, omega (arith, e, size-most s))
 
 pub size-spec : {M : Type 1} → statement M
