@@ -1,0 +1,3 @@
+-- Laws of the cases.
+pub mod CaseLaws
+pub mod FileLaws

@@ -1,0 +1,70 @@
+// A list of event files with the lines that each is to give. A case is two parts, the bytes of a file and the bytes of
+// its lines; a part is a length of four bytes, the lowest first, and so many bytes.
+ghost use mathlib.Core.Path.{_≡_};
+ghost use Rattle.caselist.specs.Cases.{isWhole, fileAgrees, caseAgrees, caseEnd, countedOf};
+use pathrun::types::Written;
+
+// Whether the case at a place lies within the bytes.
+fn is_whole(s: &[u8], at: usize) -> bool
+    ensures { λ r. ⌜ r ≡ isWhole (now (s .entry)) at ⌝ }
+{
+    let len = s.len();
+    if len < at {
+        return false;
+    }
+    let n = octets::get(s, at, 4) as usize;
+    if len - at < 4 + n {
+        return false;
+    }
+    let p = at + 4 + n;
+    let m = octets::get(s, p, 4) as usize;
+    4 + m <= len - p
+}
+
+// Whether a file is small enough and gives just these lines.
+fn file_agrees(file: &[u8], lines: &[u8]) -> bool
+    ensures { λ r. ⌜ r ≡ fileAgrees (now (file .entry)) (now (lines .entry)) ⌝ }
+{
+    let mut out = [0u8; 65536];
+    let w = pathrun::whole::lines_of_file(file, &mut out);
+    match w {
+        Written::Bytes(k) => check::same(&out[0..k], lines),
+        Written::Refused(why) => false,
+    }
+}
+
+// Whether the case at a place is whole, and its file gives just its lines.
+pub fn case_agrees(s: &[u8], at: usize) -> bool
+    ensures { λ r. ⌜ r ≡ caseAgrees (now (s .entry)) at ⌝ }
+{
+    if is_whole(s, at) {
+        let n = octets::get(s, at, 4) as usize;
+        let p = at + 4 + n;
+        let m = octets::get(s, p, 4) as usize;
+        return file_agrees(&s[at + 4..p], &s[p + 4..p + 4 + m]);
+    }
+    false
+}
+
+// The place after the case at a place, or the end of the bytes where that case is cut short.
+pub fn case_end(s: &[u8], at: usize) -> usize
+    ensures { λ r. ⌜ r ≡ caseEnd (now (s .entry)) at ⌝ }
+{
+    if is_whole(s, at) {
+        let n = octets::get(s, at, 4) as usize;
+        let p = at + 4 + n;
+        let m = octets::get(s, p, 4) as usize;
+        return p + 4 + m;
+    }
+    s.len()
+}
+
+// How many cases agree after one more, modulo 2^64.
+pub fn counted(equal: u64, agrees: bool) -> u64
+    ensures { λ r. ⌜ r ≡ countedOf equal agrees ⌝ }
+{
+    if agrees {
+        return std::num::wrapping_add_u64(equal, 1);
+    }
+    equal
+}
