@@ -10,7 +10,7 @@ use lib.Dec.{leb}
 use lib.ListN.{length, take, drop}
 use Rattle.base.proofs.Cases.{on-order}
 use Rattle.octets.specs.Octets.{readAt}
-use Rattle.caselist.specs.Cases.{partBytes, partEnd, isWhole, fileAgrees, caseAgrees, caseEnd}
+use Rattle.caselist.specs.Cases.{partText, partEnd, isWhole, fileAgrees, caseAgrees, caseEnd}
 
 -- a sum compared with all bytes, or its last terms with the bytes from p on
 leb-shift : (p m b : ℕ) → p ≤ b → leb (4 + m) (b - p) ≡ leb (p + 4 + m) b
@@ -56,7 +56,7 @@ module _ (s : List ℕ) (at : ℕ) {n m : ℕ} (e : n ≡ readAt at 4 s) (f : m 
         let b : at + 4 + n + 4 + m - (at + 4 + n + 4) ≡ m = omega arith in
         g ∙ (λ j. fileAgrees (take (a j) (drop (at + 4) s)) (take ((b ∙ f) j) (drop (at + 4 + n + 4) s)))
         ∙ (λ j. fileAgrees (take (e j) (drop (at + 4) s)) (take (readAt (at + 4 + e j) 4 s) (drop (at + 4 + e j + 4) s)))
-        ∙ sym (λ j. cond ((sym i ∙ t) j) (fileAgrees (partBytes s at) (partBytes s (partEnd s at))) false)
+        ∙ sym (λ j. cond ((sym i ∙ t) j) (fileAgrees (partText s at) (partText s (partEnd s at))) false)
 
 -- the file of a whole case ends within the bytes
 pub file-in : (s : List ℕ) (at : ℕ) {n : ℕ} {w : Bool} → n ≡ readAt at 4 s → w ≡ isWhole s at → w ≡ true
@@ -71,4 +71,4 @@ end-cut s at i t = sym (λ j. cond ((sym i ∙ t) j) (partEnd s (partEnd s at)) 
 pub case-cut : (s : List ℕ) (at : ℕ) {w : Bool} → w ≡ isWhole s at → w ≡ false → false ≡ caseAgrees s at
 unfolding caseAgrees
 case-cut s at i t =
-    sym (λ j. cond ((sym i ∙ t) j) (fileAgrees (partBytes s at) (partBytes s (partEnd s at))) false)
+    sym (λ j. cond ((sym i ∙ t) j) (fileAgrees (partText s at) (partText s (partEnd s at))) false)

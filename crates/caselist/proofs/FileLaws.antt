@@ -1,11 +1,11 @@
--- Laws of a file and its lines: equal bytes, the room that the lines have, and whether the file agrees.
+-- Laws of a file and its lines: the room that the lines have, and whether the file agrees.
 -- Assumes nothing.
 use Prim.Native.Nat.{ℕ, _-_, _/_, _<_, _≤_}
 use mathlib.Core.Path.{_≡_, refl, sym, ap, subst, _∙_}
 use mathlib.Core.List.{List, [], _∷_, _++_}
 use mathlib.Core.Bool.{Bool, true, false, cond, _&&_}
 use native.Mathlib.Omega.{arith}
-use borrow.Author.Tests.{eq-eqb, eqb-true, lt-ltb, le-ltb}
+use borrow.Author.Tests.{lt-ltb, le-ltb}
 use lib.Dec.{eqb, T}
 use lib.ListN.{length, take, drop}
 use lib.Seq.{take-append-seam}
@@ -20,41 +20,12 @@ use Rattle.pathrun.specs.Whole.{hasRoom, fileText, fileReply}
 use Rattle.pathrun.specs.declared.types.Written.{Written}
 use Rattle.pathrun.specs.declared.types.Written.the-variants as reply
 use Rattle.pathrun.proofs.WholeLaws.{Ends, ends, total-in, file-done}
-use Rattle.caselist.specs.Cases.{alike, fileAgrees}
-
--- ---- equal bytes
+use Rattle.replay.specs.Replay.{alike}
+use Rattle.replay.proofs.ReplayLaws.{alike-told}
+use Rattle.caselist.specs.Cases.{fileAgrees}
 
 no-true : false ≡ true → ⊥
 no-true e = subst T (sym e) tt
-
-both : (a b : Bool) → (a && b) ≡ true → (a ≡ true) × (b ≡ true)
-both true b e = (refl, e)
-both false b e = absurd (no-true e)
-
--- bytes are like themselves
-alike-self : (l : List ℕ) → alike l l ≡ true
-alike-self [] = refl
-alike-self (x ∷ l) = rw (eq-eqb x x refl, alike-self l)
-
--- and like no others
-alike-same : (l m : List ℕ) → alike l m ≡ true → l ≡ m
-alike-same [] [] e = refl
-alike-same [] (y ∷ m) e = absurd (no-true e)
-alike-same (x ∷ l) [] e = absurd (no-true e)
-alike-same (x ∷ l) (y ∷ m) e =
-    let h : (eqb x y ≡ true) × (alike l m ≡ true) = both (eqb x y) (alike l m) e in
-    λ i. eqb-true x y (h .0) i ∷ alike-same l m (h .1) i
-
--- what tells equal bytes from others is `alike`
-told : (r s : Bool) → (r ≡ true → s ≡ true) → (s ≡ true → r ≡ true) → r ≡ s
-told true true f g = refl
-told true false f g = sym (f refl)
-told false true f g = g refl
-told false false f g = refl
-
-alike-told : (l m : List ℕ) (r : Bool) → (r ≡ true → l ≡ m) × (l ≡ m → r ≡ true) → r ≡ alike l m
-alike-told l m r (f, g) =
-    told r (alike l m) (λ e. ap (alike l) (sym (f e)) ∙ alike-self l) (λ e. g (alike-same l m e))
 
 -- ---- the room
 

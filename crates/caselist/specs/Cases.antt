@@ -1,26 +1,20 @@
 -- A list of event files with the lines that each is to give. A case is two parts: the bytes of a file, and the bytes of
 -- its lines. A part is a length of four little-endian bytes, and so many bytes.
-use Prim.Native.Nat.{ℕ, _+_, _/_, _%_, _^_}
-use mathlib.Core.List.{List, [], _∷_}
-use mathlib.Core.Bool.{Bool, true, false, cond, _&&_}
-use lib.Dec.{eqb, ltb, leb}
+use Prim.Native.Nat.{ℕ, _+_, _/_}
+use mathlib.Core.List.{List}
+use mathlib.Core.Bool.{Bool, false, cond}
+use lib.Dec.{ltb, leb}
 use lib.ListN.{length, take, drop}
 use Rattle.octets.specs.Octets.{readAt}
 use Rattle.pathrun.specs.Lines.{linesOf}
-
--- the same bytes
-abbrev pub alike : List ℕ → List ℕ → Bool
-alike [] [] = true
-alike [] (y ∷ m) = false
-alike (x ∷ l) [] = false
-alike (x ∷ l) (y ∷ m) = eqb x y && alike l m
+use Rattle.replay.specs.Replay.{alike}
 
 -- how many bytes the part at a place has behind its length, which these are, and the place after them
 abbrev pub partLength : List ℕ → ℕ → ℕ
 partLength s at = readAt at 4 s
 
-abbrev pub partBytes : List ℕ → ℕ → List ℕ
-partBytes s at = take (partLength s at) (drop (at + 4) s)
+abbrev pub partText : List ℕ → ℕ → List ℕ
+partText s at = take (partLength s at) (drop (at + 4) s)
 
 abbrev pub partEnd : List ℕ → ℕ → ℕ
 partEnd s at = at + 4 + partLength s at
@@ -36,12 +30,8 @@ fileAgrees file lines = cond (ltb (length file / 3) (65536 / 84)) (alike (linesO
 
 -- the case at a place is whole, and its file gives just its lines
 unfoldable pub caseAgrees : List ℕ → ℕ → Bool
-caseAgrees s at = cond (isWhole s at) (fileAgrees (partBytes s at) (partBytes s (partEnd s at))) false
+caseAgrees s at = cond (isWhole s at) (fileAgrees (partText s at) (partText s (partEnd s at))) false
 
 -- the place after a case; of one that is cut short, the end of the bytes
 unfoldable pub caseEnd : List ℕ → ℕ → ℕ
 caseEnd s at = cond (isWhole s at) (partEnd s (partEnd s at)) (length s)
-
--- how many cases agree after one more, modulo 2 ^ 64
-abbrev pub countedOf : ℕ → Bool → ℕ
-countedOf equal agrees = cond agrees ((equal + 1) % 2 ^ 64) equal

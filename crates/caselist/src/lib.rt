@@ -1,7 +1,7 @@
 // A list of event files with the lines that each is to give. A case is two parts, the bytes of a file and the bytes of
 // its lines; a part is a length of four bytes, the lowest first, and so many bytes.
 ghost use mathlib.Core.Path.{_≡_};
-ghost use Rattle.caselist.specs.Cases.{isWhole, fileAgrees, caseAgrees, caseEnd, countedOf};
+ghost use Rattle.caselist.specs.Cases.{isWhole, fileAgrees, caseAgrees, caseEnd};
 use pathrun::types::Written;
 
 // Whether the case at a place lies within the bytes.
@@ -57,14 +57,4 @@ pub fn case_end(s: &[u8], at: usize) -> usize
         return p + 4 + m;
     }
     s.len()
-}
-
-// How many cases agree after one more, modulo 2^64.
-pub fn counted(equal: u64, agrees: bool) -> u64
-    ensures { λ r. ⌜ r ≡ countedOf equal agrees ⌝ }
-{
-    if agrees {
-        return std::num::wrapping_add_u64(equal, 1);
-    }
-    equal
 }

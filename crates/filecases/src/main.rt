@@ -23,8 +23,8 @@ fn main() {
         if len <= at {
             break;
         }
-        files = caselist::counted(files, true);
-        equal = caselist::counted(equal, caselist::case_agrees(&list[..len], at));
+        files = replay::counted(files, true);
+        equal = replay::counted(equal, caselist::case_agrees(&list[..len], at));
         at = caselist::case_end(&list[..len], at);
     }
     io::print_decimal(STDOUT_FILENO, equal);
