@@ -6,7 +6,7 @@ use mathlib.Core.List.{List, [], _∷_, _++_}
 use mathlib.Core.Bool.{Bool, true, false, cond, _&&_}
 use native.Mathlib.Omega.{arith}
 use borrow.Author.Tests.{lt-ltb, le-ltb}
-use lib.Dec.{eqb, T}
+use lib.Dec.{T}
 use lib.ListN.{length, take, drop}
 use lib.Seq.{take-append-seam}
 use Rattle.base.specs.declared.types.Refusal.{Refusal}
@@ -16,7 +16,7 @@ use Rattle.octets.specs.Octets.{over}
 use Rattle.octets.proofs.Fill.{over-fits}
 use Rattle.pathrun.specs.Lines.{linesOf}
 use Rattle.pathrun.specs.Sessions.{begun, ranOf}
-use Rattle.pathrun.specs.Whole.{hasRoom, fileText, fileReply}
+use Rattle.pathrun.specs.Whole.{fileText, fileReply}
 use Rattle.pathrun.specs.declared.types.Written.{Written}
 use Rattle.pathrun.specs.declared.types.Written.the-variants as reply
 use Rattle.pathrun.proofs.WholeLaws.{Ends, ends, total-in, file-done}
