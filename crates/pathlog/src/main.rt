@@ -32,12 +32,14 @@ fn main() {
         turns = turns - 1;
         let r = feed::call(session, buf, p, n, out);
         let wrote = r.wrote;
-        session = r.session;
-        p = p + r.place;
+        let next = r.session;
+        let phase = next.phase;
+        session = next;
+        p = std::num::wrapping_add_usize(p, r.place);
         if !io::write_all(STDOUT_FILENO, &out[0..wrote]) {
             break;
         }
-        if feed::is_over(session.phase) {
+        if feed::is_over(phase) {
             return;
         }
         if !r.full {
@@ -47,10 +49,11 @@ fn main() {
                 break;
             }
             p = 0;
-            n = held + io::count(got, &buf[held..]);
+            n = std::num::wrapping_add_usize(held, io::count(got, &buf[held..]));
             if n == held {
                 let last = feed::finish(session, buf, 0, n, out);
-                if io::write_all(STDOUT_FILENO, &out[0..last]) {
+                let line = &out[..];
+                if io::write_all(STDOUT_FILENO, &line[0..last]) {
                     return;
                 }
                 break;
