@@ -21,7 +21,7 @@ use Rattle.eventfile.specs.declared.types.Parse.the-variants as parse
 use Rattle.lines.specs.Text.{lineOf, written}
 use Rattle.lines.proofs.TextLaws.{line-few}
 use Rattle.pathrun.specs.Lines.{numberAfter}
-use Rattle.pathrun.specs.Sessions.{Ran, overOf, halted, eventLine, ranBy, ranFrom, ranIn, ranOf, lastOf, partOf}
+use Rattle.pathrun.specs.Sessions.{Ran, overOf, callEnd, eventLine, ranBy, ranFrom, ranIn, ranOf, lastOf, partOf}
 use Rattle.pathrun.specs.declared.types.Phase.{Phase}
 use Rattle.pathrun.specs.declared.types.Phase.the-variants as phase
 use Rattle.pathrun.specs.declared.types.Run.{Run}
@@ -90,8 +90,8 @@ in-few : (p : Phase) (k : ℕ) (s : Session) (l : List ℕ) → 1 ≤ k → leng
 in-few phase.Settings k s l h =
     let few : Ran → Type 0 = λ (r : Ran). length (r .text) ≤ 84 * k in
     let go = ranFrom k l [] (freshRecord (settingsOf l)) 1 32 in
-    let bad = halted (lineOf 0 0 6 0) (overOf s) 0 false in
-    cond-cases few (ltb (length l) 32) (halted [] s 0 false) (cond (allowed (settingsOf l)) go bad)
+    let bad = callEnd (lineOf 0 0 6 0) (overOf s) 0 false in
+    cond-cases few (ltb (length l) 32) (callEnd [] s 0 false) (cond (allowed (settingsOf l)) go bad)
     (λ e. omega arith)
     (λ e.
     cond-cases few (allowed (settingsOf l)) go bad
@@ -111,7 +111,7 @@ none-fits s l = (omega arith, omega arith)
 some-few : (k : ℕ) (s : Session) (l : List ℕ) → 1 ≤ k → length (ranOf k s l .text) ≤ 84 * k
 unfolding ranOf
 some-few k s l h =
-    cond-cases (λ (r : Ran). length (r .text) ≤ 84 * k) (eqb k 0) (halted [] s 0 true) (ranIn (s .phase) k s l)
+    cond-cases (λ (r : Ran). length (r .text) ≤ 84 * k) (eqb k 0) (callEnd [] s 0 true) (ranIn (s .phase) k s l)
     (λ e. omega arith) (λ e. in-few (s .phase) k s l h)
 
 ran-fits : (k : ℕ) (s : Session) (l : List ℕ) → Fits s l k
