@@ -5,17 +5,14 @@
 // come in its claim `portions`; what is done with the bytes that are held stands in those of `feed`. Left here, and
 // stated by no contract: that the bytes of standard input are read in their order, behind those that are held, and
 // that what a call wrote is written.
+// A program has no exit status of its own here: one that cannot read or write says so on standard error, its only line
+// there, and ends; `./pathlog` gives the status.
 use libc::STDERR_FILENO;
 use libc::STDIN_FILENO;
 use libc::STDOUT_FILENO;
 use live::types::Liveness;
 use pathrun::types::*;
 use rules::types::*;
-
-extern "C" {
-    // C's exit: ends the program with a status. The call does not return, and its contract says nothing.
-    fn exit(status: i32);
-}
 
 // Bytes p to n of `buf` are held. Each turn is a call; one that did not stop for want of room is followed by a read.
 fn main() {
@@ -61,5 +58,4 @@ fn main() {
         }
     }
     io::write_all(STDERR_FILENO, b"pathlog: a read or a write failed\n");
-    exit(1);
 }

@@ -115,9 +115,6 @@ slice-aggregate-write-all c = search needs
 write-all-requires-3 : tie.Need-write-all-requires-3 Inv-loop μ-loop
 write-all-requires-3 c κs = search needs
 
-exit-requires : tie.Need-exit-requires Inv-loop μ-loop
-exit-requires c κs = search needs
-
 returns-3 : tie.Need-returns-3 Inv-loop μ-loop
 returns-3 c = search needs
 
@@ -162,5 +159,4 @@ main-spec =
     loop-again-2
     slice-aggregate-write-all
     write-all-requires-3
-    exit-requires
     returns-3)
