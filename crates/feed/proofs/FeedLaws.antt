@@ -1,7 +1,7 @@
 -- The bytes held as a part of the lent ones, and how much a call reads and writes.
 -- Assumes nothing.
 use Prim.Native.Nat.{ℕ, zero, suc, _+_, _-_, _*_, _/_, _<_, _≤_, min}
-use mathlib.Core.Path.{_≡_, refl, sym, ap, _∙_, subst}
+use mathlib.Core.Path.{_≡_, sym, ap, _∙_, subst}
 use mathlib.Core.Bool.{Bool, true, false, cond}
 use mathlib.Core.List.{List, [], _++_}
 use native.Mathlib.Omega.{arith}
@@ -10,7 +10,7 @@ use lib.Dec.{eqb, ltb}
 use lib.ListN.{length, take, drop, length-append, length-take, length-drop}
 use lib.Seq.{take-all}
 use Rattle.base.specs.Refusals.{refusalNumber}
-use Rattle.base.proofs.Cases.{on-flag, on-order, cond-cases}
+use Rattle.base.proofs.Cases.{on-order, cond-cases}
 use Rattle.octets.specs.Octets.{over}
 use Rattle.octets.proofs.Fill.{over-fits, over-not}
 use Rattle.rules.specs.Step.{step, allowed, freshRecord}
