@@ -1,0 +1,3 @@
+-- Laws of the rows: a row that was made to say something says it.
+pub mod RowLaws
+pub mod MakerLaws

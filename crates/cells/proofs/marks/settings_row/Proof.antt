@@ -1,0 +1,14 @@
+-- `cells::marks::settings_row` meets its contract.
+-- Assumes nothing.
+use mathlib.Core.Path.{refl}
+use Rattle.cells.specs.Code.{settingsRow}
+use Rattle.cells.proofs.RowLaws.{settings-says}
+use Rattle.cells.proofs.marks.settings_row.Statement.{statement}
+use Rattle.cells.proofs.marks.settings_row.Tie as tie
+
+returns : tie.Need-returns
+unfolding settingsRow
+returns c = (refl, settings-says _)
+
+pub settings-row-spec : {M : Type 1} → statement M
+settings-row-spec = tie.close (tie.spec returns)

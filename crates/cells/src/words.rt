@@ -1,0 +1,87 @@
+// Single words: numbers by their width, and what may be missing.
+ghost use mathlib.Core.Path.{_≡_};
+ghost use Prim.Native.Nat.{_%_, _^_, _<_};
+ghost use Rattle.cells.specs.Cells.{idIn, lenIn, timeIn};
+ghost use Rattle.cells.specs.Code.{idWord, lenWord};
+use base::types::*;
+
+// A number of 32 bits.
+pub fn low(x: u64) -> u32
+    ensures { λ r. ⌜ r ≡ x % 2 ^ 32 ⌝ }
+{
+    (x % 0x1_0000_0000) as u32
+}
+
+// A number of 16 bits.
+pub fn short(x: u64) -> u16
+    ensures { λ r. ⌜ r ≡ x % 65536 ⌝ }
+{
+    (x % 65536) as u16
+}
+
+// A number of 32 bits as a word.
+pub fn wide(x: u32) -> u64
+    ensures { λ r. ⌜ (r ≡ x) × (r < 2 ^ 32) ⌝ }
+{
+    x as u64
+}
+
+// A number of 16 bits as a word.
+pub fn wide_len(n: u16) -> u64
+    ensures { λ r. ⌜ (r ≡ n) × (r < 65536) ⌝ }
+{
+    n as u64
+}
+
+// The identifier that a word says.
+pub fn id_in(x: u64) -> MaybeId
+    ensures { λ r. ⌜ r ≡ idIn x ⌝ }
+{
+    if x == 0 {
+        MaybeId::None
+    } else {
+        MaybeId::Some(low(x - 1))
+    }
+}
+
+// The word that says an identifier.
+pub fn id_word(m: MaybeId) -> u64
+    ensures { λ r. ⌜ (r ≡ idWord m) × (idIn r ≡ m) ⌝ }
+{
+    match m {
+        MaybeId::None => 0,
+        MaybeId::Some(id) => wide(id) + 1,
+    }
+}
+
+// The length that a word says.
+pub fn len_in(x: u64) -> MaybeLen
+    ensures { λ r. ⌜ r ≡ lenIn x ⌝ }
+{
+    if x == 0 {
+        MaybeLen::None
+    } else {
+        MaybeLen::Some(short(x - 1))
+    }
+}
+
+// The word that says a length.
+pub fn len_word(m: MaybeLen) -> u64
+    ensures { λ r. ⌜ (r ≡ lenWord m) × (lenIn r ≡ m) ⌝ }
+{
+    match m {
+        MaybeLen::None => 0,
+        MaybeLen::Some(n) => wide_len(n) + 1,
+    }
+}
+
+// The instant or the duration that two words say.
+pub fn time_in(tag: u64, t: u64) -> MaybeTime
+    ensures { λ r. ⌜ r ≡ timeIn tag t ⌝ }
+{
+    if tag == 0 {
+        MaybeTime::None
+    } else {
+        MaybeTime::Some(t)
+    }
+}
