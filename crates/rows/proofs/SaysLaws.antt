@@ -1,0 +1,191 @@
+-- What a store leaves, of each part; and stores one after the other.
+-- Assumes nothing.
+use Prim.Native.Nat.{ℕ, _+_, _<_, _≤_}
+use mathlib.Core.Path.{_≡_, refl, ap, sym, _∙_}
+use mathlib.Core.Bool.{Bool, true, false}
+use mathlib.Core.List.{List}
+use native.Mathlib.Omega.{arith}
+use borrow.Author.Tests.{ne-eqb}
+use lib.Dec.{eqb}
+use lib.Ieee.{Float}
+use lib.ListN.{length, set, getD}
+use lib.Seq.{set-out}
+use Rattle.base.proofs.Cases.{never}
+use Rattle.base.specs.declared.types.MaybeTime.{MaybeTime}
+use Rattle.ring.specs.declared.types.Sent.{Sent}
+use Rattle.ring.specs.declared.types.Ids.{Ids}
+use Rattle.rtt.specs.declared.types.Sample.{Sample}
+use Rattle.rtt.specs.declared.types.Span.{Span}
+use Rattle.seek.specs.declared.types.Ladder.{Ladder}
+use Rattle.seek.specs.declared.types.Sizes.{Sizes}
+use Rattle.live.specs.Path.{withRing, withLate, withIds, withSizes, withTraffic, withLadder, withMisses, withEtx}
+use Rattle.live.specs.declared.types.Liveness.{Liveness}
+use Rattle.live.specs.declared.types.Traffic.{Traffic}
+use Rattle.rules.specs.declared.types.Reply.{Reply}
+use Rattle.rules.specs.Rules.{turn}
+use Rattle.cells.specs.Cells.{sentIn, idsIn, firstTime, sizesIn, ladderIn, trafficIn, missesIn, etxIn, sampleIn, spanIn}
+use Rattle.cells.specs.Cells.{labelIn, usedIn}
+use Rattle.cells.specs.Code.{sentRow, idsRow, timeRow, seekRow, provenRow, ladderRow, arrivalsRow, countersRow}
+use Rattle.cells.specs.Code.{missesRow, etxRow, sampleRow, spanRow}
+use Rattle.rows.specs.Parts.{withQuiet, withSamples, withSpans, withTrip}
+use Rattle.rows.specs.View.{row, pathIn, slotIn}
+use Rattle.rows.specs.Encode.{slotRows, IsCoded}
+use Rattle.rows.specs.Says.{Says, Turns, isRefused}
+use Rattle.rows.proofs.BlockLaws.{row-other}
+use Rattle.rows.proofs.CodeLaws as code
+use Rattle.rows.proofs.CodeLaws.{Long, onPath}
+use Rattle.rows.proofs.ViewLaws as view
+
+-- ---- one after the other
+
+-- nothing stored
+pub says-none : {a : List (List ℕ)} {q : Liveness} → pathIn a ≡ q → Says a a q
+says-none e = record { path = e; marks = refl; coded = λ c. c }
+
+-- two stores
+pub says-then : {a b c : List (List ℕ)} {q r : Liveness} → Says a b q → Says b c r → Says a c r
+says-then s t = record { path = t .path; marks = t .marks ∙ s .marks; coded = λ c. t .coded (s .coded c) }
+
+-- the path by another name
+pub says-as : {a b : List (List ℕ)} {q r : Liveness} → Says a b q → q ≡ r → Says a b r
+says-as s e = record { path = s .path ∙ e; marks = s .marks; coded = s .coded }
+
+-- a path stored, and an answer that is none of the refusals
+pub turns-by : {a b : List (List ℕ)} {q : Liveness} {x y : Reply} → Says a b q → x ≡ y → isRefused x ≡ false
+    → Turns a b x (turn (slotIn a) q y)
+turns-by {a} {b} {q} {x} {y} s e f =
+    record {
+      answer = e;
+      slot = λ k. record { path = s .path k; label = labelIn (s .marks k); used = usedIn (s .marks k) };
+      coded = s .coded;
+      left = λ g. never g f;
+    }
+
+-- nothing stored
+pub turns-none : {a : List (List ℕ)} {x y : Reply} {q : Liveness} → x ≡ y → pathIn a ≡ q → Turns a a x (turn (slotIn a) q y)
+turns-none {a} {x} {y} {q} e f =
+    record {
+      answer = e;
+      slot = λ k. record { path = f k; label = labelIn (row a 64); used = usedIn (row a 64) };
+      coded = λ c. c;
+      left = λ g. refl;
+    }
+
+-- ---- each part
+
+-- a list's places as long as the rows make them
+pub long-rows : (p : List (List ℕ)) → length p ≡ 65 → Long (pathIn p)
+long-rows p n =
+    record { ring = view.ring-length p n; late = view.late-length p n; samples = view.samples-length p n; spans = view.spans-length p n }
+
+-- what follows of a store that changes the path to q and leaves the marks
+made : (p r : List (List ℕ)) (q : Liveness) → pathIn r ≡ q → row r 64 ≡ row p 64
+    → (slotRows (slotIn p) ≡ p → slotRows (onPath (slotIn p) q) ≡ r) → Says p r q
+made p r q e f g =
+    record {
+      path = e;
+      marks = f;
+      coded = λ c. (λ k. slotRows (record { path = e k; label = labelIn (f k); used = usedIn (f k) })) ∙ g c;
+    }
+
+-- one row stored
+one : (p : List (List ℕ)) (k : ℕ) (r : List ℕ) (q : Liveness) → eqb 64 k ≡ false → pathIn (set p k r) ≡ q
+    → set (slotRows (slotIn p)) k r ≡ slotRows (onPath (slotIn p) q) → Says p (set p k r) q
+one p k r q h e f =
+    made p (set p k r) q e (row-other p k r 64 h) (λ c. sym f ∙ ap (λ (z : List (List ℕ)). set z k r) c)
+
+module _ (p : List (List ℕ)) (n : length p ≡ 65) (r : List ℕ) where
+  pub says-ids : {m : Ids} → (r ≡ idsRow m) × (idsIn r ≡ m) → Says p (set p 12 r) (withIds (pathIn p) m)
+  says-ids {m} e =
+      one p 12 r (withIds (pathIn p) m) refl (view.view-ids p r n (e .1))
+      (ap (λ (z : List ℕ). set (slotRows (slotIn p)) 12 z) (e .0) ∙ code.code-ids (slotIn p) (long-rows p n) m)
+
+  pub says-quiet : {m : MaybeTime} → (r ≡ timeRow m) × (firstTime r ≡ m) → Says p (set p 13 r) (withQuiet (pathIn p) m)
+  says-quiet {m} e =
+      one p 13 r (withQuiet (pathIn p) m) refl (view.view-quiet p r n (e .1))
+      (ap (λ (z : List ℕ). set (slotRows (slotIn p)) 13 z) (e .0) ∙ code.code-quiet (slotIn p) (long-rows p n) m)
+
+  pub says-ladder : {m : Ladder} → (r ≡ ladderRow m) × (ladderIn r ≡ m) → Says p (set p 18 r) (withLadder (pathIn p) m)
+  says-ladder {m} e =
+      one p 18 r (withLadder (pathIn p) m) refl (view.view-ladder p r n (e .1))
+      (ap (λ (z : List ℕ). set (slotRows (slotIn p)) 18 z) (e .0) ∙ code.code-ladder (slotIn p) (long-rows p n) m)
+
+  pub says-misses : {m : ℕ} → (r ≡ missesRow m) × (missesIn r ≡ m) → Says p (set p 21 r) (withMisses (pathIn p) m)
+  says-misses {m} e =
+      one p 21 r (withMisses (pathIn p) m) refl (view.view-misses p r n (e .1))
+      (ap (λ (z : List ℕ). set (slotRows (slotIn p)) 21 z) (e .0) ∙ code.code-misses (slotIn p) (long-rows p n) m)
+
+  pub says-etx : {m : Float} → (r ≡ etxRow m) × (etxIn r ≡ m) → Says p (set p 22 r) (withEtx (pathIn p) m)
+  says-etx {m} e =
+      one p 22 r (withEtx (pathIn p) m) refl (view.view-etx p r n (e .1))
+      (ap (λ (z : List ℕ). set (slotRows (slotIn p)) 22 z) (e .0) ∙ code.code-etx (slotIn p) (long-rows p n) m)
+
+  pub says-trip : {m : MaybeTime} → (r ≡ timeRow m) × (firstTime r ≡ m) → Says p (set p 23 r) (withTrip (pathIn p) m)
+  says-trip {m} e =
+      one p 23 r (withTrip (pathIn p) m) refl (view.view-trip p r n (e .1))
+      (ap (λ (z : List ℕ). set (slotRows (slotIn p)) 23 z) (e .0) ∙ code.code-trip (slotIn p) (long-rows p n) m)
+
+  pub says-ring : {i : ℕ} {s : Sent} → i < 8 → (r ≡ sentRow s) × (sentIn r ≡ s)
+      → Says p (set p i r) (withRing (pathIn p) (set (pathIn p .ring) i s))
+  says-ring {i} {s} h e =
+      one p i r (withRing (pathIn p) (set (pathIn p .ring) i s)) (ne-eqb 64 i (λ q. absurd (omega arith)))
+      (view.view-ring p r h (e .1))
+      (ap (λ (z : List ℕ). set (slotRows (slotIn p)) i z) (e .0) ∙ code.code-ring (slotIn p) (long-rows p n) i s h)
+
+  pub says-late : {i : ℕ} {s : Sent} → i < 4 → (r ≡ sentRow s) × (sentIn r ≡ s)
+      → Says p (set p (8 + i) r) (withLate (pathIn p) (set (pathIn p .late) i s))
+  says-late {i} {s} h e =
+      one p (8 + i) r (withLate (pathIn p) (set (pathIn p .late) i s)) (ne-eqb 64 (8 + i) (λ q. absurd (omega arith)))
+      (view.view-late p r h (e .1))
+      (ap (λ (z : List ℕ). set (slotRows (slotIn p)) (8 + i) z) (e .0) ∙ code.code-late (slotIn p) (long-rows p n) i s h)
+
+  pub says-sample : {i : ℕ} {s : Sample} → i < 32 → (r ≡ sampleRow s) × (sampleIn r ≡ s)
+      → Says p (set p (24 + i) r) (withSamples (pathIn p) (set (pathIn p .rtts .samples) i s))
+  says-sample {i} {s} h e =
+      one p (24 + i) r (withSamples (pathIn p) (set (pathIn p .rtts .samples) i s)) (ne-eqb 64 (24 + i) (λ q. absurd (omega arith)))
+      (view.view-sample p r h (e .1))
+      (ap (λ (z : List ℕ). set (slotRows (slotIn p)) (24 + i) z) (e .0) ∙ code.code-sample (slotIn p) (long-rows p n) i s h)
+
+  pub says-span : {i : ℕ} {s : Span} → i < 8 → (r ≡ spanRow s) × (spanIn r ≡ s)
+      → Says p (set p (56 + i) r) (withSpans (pathIn p) (set (pathIn p .rtts .spans) i s))
+  says-span {i} {s} h e =
+      one p (56 + i) r (withSpans (pathIn p) (set (pathIn p .rtts .spans) i s)) (ne-eqb 64 (56 + i) (λ q. absurd (omega arith)))
+      (view.view-span p r h (e .1))
+      (ap (λ (z : List ℕ). set (slotRows (slotIn p)) (56 + i) z) (e .0) ∙ code.code-span (slotIn p) (long-rows p n) i s h)
+
+-- two rows stored
+module _ (p : List (List ℕ)) (n : length p ≡ 65) (a b : List ℕ) where
+  pub says-sizes : {s : Sizes} → (a ≡ seekRow s) × (b ≡ provenRow s) × (sizesIn a b ≡ s)
+      → Says p (set (set p 16 a) 17 b) (withSizes (pathIn p) s)
+  says-sizes {s} e =
+      made p (set (set p 16 a) 17 b) (withSizes (pathIn p) s) (view.view-sizes p n a b (e .2))
+      (row-other (set p 16 a) 17 b 64 refl ∙ row-other p 16 a 64 refl)
+      (λ c. sym (code.code-sizes (slotIn p) (long-rows p n) s)
+      ∙ (λ j. set (set (c j) 16 (sym (e .0) j)) 17 (sym (e .1) j)))
+
+  pub says-traffic : {s : Traffic} → (a ≡ arrivalsRow s) × (b ≡ countersRow s) × (trafficIn a b ≡ s)
+      → Says p (set (set p 19 a) 20 b) (withTraffic (pathIn p) s)
+  says-traffic {s} e =
+      made p (set (set p 19 a) 20 b) (withTraffic (pathIn p) s) (view.view-traffic p n a b (e .2))
+      (row-other (set p 19 a) 20 b 64 refl ∙ row-other p 19 a 64 refl)
+      (λ c. sym (code.code-traffic (slotIn p) (long-rows p n) s)
+      ∙ (λ j. set (set (c j) 19 (sym (e .0) j)) 20 (sym (e .1) j)))
+
+-- ---- places that are not there
+
+module _ (p : List (List ℕ)) (n : length p ≡ 65) {i : ℕ} where
+  pub past-ring : (s : Sent) → 8 ≤ i → Says p p (withRing (pathIn p) (set (pathIn p .ring) i s))
+  past-ring s h =
+      says-none (ap (λ (l : List Sent). withRing (pathIn p) l) (sym (set-out (pathIn p .ring) i s (omega (arith, long-rows p n .ring)))))
+
+  pub past-late : (s : Sent) → 4 ≤ i → Says p p (withLate (pathIn p) (set (pathIn p .late) i s))
+  past-late s h =
+      says-none (ap (λ (l : List Sent). withLate (pathIn p) l) (sym (set-out (pathIn p .late) i s (omega (arith, long-rows p n .late)))))
+
+  pub past-sample : (s : Sample) → 32 ≤ i → Says p p (withSamples (pathIn p) (set (pathIn p .rtts .samples) i s))
+  past-sample s h =
+      says-none (ap (λ (l : List Sample). withSamples (pathIn p) l) (sym (set-out (pathIn p .rtts .samples) i s (omega (arith, long-rows p n .samples)))))
+
+  pub past-span : (s : Span) → 8 ≤ i → Says p p (withSpans (pathIn p) (set (pathIn p .rtts .spans) i s))
+  past-span s h =
+      says-none (ap (λ (l : List Span). withSpans (pathIn p) l) (sym (set-out (pathIn p .rtts .spans) i s (omega (arith, long-rows p n .spans)))))

@@ -1,0 +1,19 @@
+-- `rows::measures::etx` meets its contract.
+-- Assumes nothing.
+use Rattle.rows.specs.View.{pathIn}
+use borrow.Author.Needs.{needs}
+use Rattle.rows.proofs.measures.etx.Statement.{statement}
+use Rattle.rows.proofs.measures.etx.Tie as tie
+
+element-copy-out-t : tie.Need-element-copy-out-t
+element-copy-out-t c = search needs
+
+etx-in-requires : tie.Need-etx-in-requires
+etx-in-requires c κs = search needs
+
+returns : tie.Need-returns
+unfolding pathIn
+returns c = c .etx-in .ensures
+
+pub etx-spec : {M : Type 1} → statement M
+etx-spec = tie.close (tie.spec element-copy-out-t etx-in-requires returns)

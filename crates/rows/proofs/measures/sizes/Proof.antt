@@ -1,0 +1,22 @@
+-- `rows::measures::sizes` meets its contract.
+-- Assumes nothing.
+use Rattle.rows.specs.View.{pathIn}
+use borrow.Author.Needs.{needs}
+use Rattle.rows.proofs.measures.sizes.Statement.{statement}
+use Rattle.rows.proofs.measures.sizes.Tie as tie
+
+element-copy-out-t : tie.Need-element-copy-out-t
+element-copy-out-t c = search needs
+
+element-copy-out-u : tie.Need-element-copy-out-u
+element-copy-out-u c = search needs
+
+sizes-in-requires : tie.Need-sizes-in-requires
+sizes-in-requires c κs = search needs
+
+returns : tie.Need-returns
+unfolding pathIn
+returns c = c .sizes-in .ensures
+
+pub sizes-spec : {M : Type 1} → statement M
+sizes-spec = tie.close (tie.spec element-copy-out-t element-copy-out-u sizes-in-requires returns)

@@ -1,0 +1,23 @@
+-- A path with a part changed that is smaller than the parts of live's specs/Path.antt.
+use mathlib.Core.List.{List}
+use Rattle.base.specs.declared.types.MaybeTime.{MaybeTime}
+use Rattle.rtt.specs.declared.types.Sample.{Sample}
+use Rattle.rtt.specs.declared.types.Span.{Span}
+use Rattle.live.specs.Path.{withSilence, withRtts}
+use Rattle.live.specs.declared.types.Liveness.{Liveness}
+
+-- another silence clock
+abbrev pub withQuiet : Liveness → MaybeTime → Liveness
+withQuiet p q = withSilence p (record { stop = p .silence .stop; quiet = q })
+
+-- other samples
+abbrev pub withSamples : Liveness → List Sample → Liveness
+withSamples p l = withRtts p (record { samples = l; spans = p .rtts .spans; rtt = p .rtts .rtt })
+
+-- other spans
+abbrev pub withSpans : Liveness → List Span → Liveness
+withSpans p l = withRtts p (record { samples = p .rtts .samples; spans = l; rtt = p .rtts .rtt })
+
+-- another latest round trip
+abbrev pub withTrip : Liveness → MaybeTime → Liveness
+withTrip p t = withRtts p (record { samples = p .rtts .samples; spans = p .rtts .spans; rtt = t })

@@ -1,0 +1,147 @@
+// The places of probes in a slot's rows: the ring, the late list, the identifiers, the silence clock, the ladder, the
+// misses. A store leaves all else; a place that is not there reads as free, and a store to it changes nothing.
+ghost use mathlib.Core.Path.{_≡_};
+ghost use lib.ListN.{length, set, getD};
+ghost use Rattle.ring.specs.Ring.{noSent};
+ghost use Rattle.live.specs.Path.{withRing, withLate, withIds, withLadder, withMisses};
+ghost use Rattle.rows.specs.Parts.{withQuiet};
+ghost use Rattle.rows.specs.View.{pathIn};
+ghost use Rattle.rows.specs.Says.{Says};
+use base::types::MaybeTime;
+use cells::measures::*;
+use cells::probes::*;
+use ring::types::*;
+use seek::types::Ladder;
+
+// The rows of a slot.
+pub const ROWS: usize = 65;
+
+// How many rows are lent.
+fn count(q: &[[u64; 4]]) -> usize
+    ensures { λ r. ⌜ r ≡ length (now (q .entry)) ⌝ }
+{
+    q.len()
+}
+
+// A slot has 65 rows: a call of this says it to a proof, and costs nothing.
+pub fn rows(p: &[[u64; 4]; ROWS]) -> usize
+    ensures { λ r. ⌜ (r ≡ 65) × (length (now (p .entry)) ≡ 65) ⌝ }
+{
+    count(p)
+}
+
+// The probe at a place of the ring.
+pub fn sent(p: &[[u64; 4]; ROWS], i: usize) -> Sent
+    ensures { λ r. ⌜ r ≡ getD (pathIn (now (p .entry)) .ring) i noSent ⌝ }
+{
+    rows(p);
+    if RING <= i {
+        return ring::ring::none();
+    }
+    let t = p[i];
+    sent_in(t)
+}
+
+// Stores a probe at a place of the ring.
+pub fn set_sent(p: &mut [[u64; 4]; ROWS], i: usize, s: Sent)
+    ensures { λ r. ⌜ Says (now (p .entry)) (now (p .exit)) (withRing (pathIn (now (p .entry))) (set (pathIn (now (p .entry)) .ring) i s)) ⌝ }
+{
+    rows(p);
+    if RING <= i {
+        return;
+    }
+    let t = sent_row(s);
+    p[i] = t;
+}
+
+// The probe at a place of the late list.
+pub fn late(p: &[[u64; 4]; ROWS], i: usize) -> Sent
+    ensures { λ r. ⌜ r ≡ getD (pathIn (now (p .entry)) .late) i noSent ⌝ }
+{
+    rows(p);
+    if LATE <= i {
+        return ring::ring::none();
+    }
+    let t = p[8 + i];
+    sent_in(t)
+}
+
+// Stores a probe at a place of the late list.
+pub fn set_late(p: &mut [[u64; 4]; ROWS], i: usize, s: Sent)
+    ensures { λ r. ⌜ Says (now (p .entry)) (now (p .exit)) (withLate (pathIn (now (p .entry))) (set (pathIn (now (p .entry)) .late) i s)) ⌝ }
+{
+    rows(p);
+    if LATE <= i {
+        return;
+    }
+    let t = sent_row(s);
+    p[8 + i] = t;
+}
+
+// The identifiers.
+pub fn ids(p: &[[u64; 4]; ROWS]) -> Ids
+    ensures { λ r. ⌜ r ≡ pathIn (now (p .entry)) .ids ⌝ }
+{
+    let t = p[12];
+    ids_in(t)
+}
+
+// Stores the identifiers.
+pub fn set_ids(p: &mut [[u64; 4]; ROWS], m: Ids)
+    ensures { λ r. ⌜ Says (now (p .entry)) (now (p .exit)) (withIds (pathIn (now (p .entry))) m) ⌝ }
+{
+    rows(p);
+    let t = ids_row(m);
+    p[12] = t;
+}
+
+// The silence clock.
+pub fn quiet(p: &[[u64; 4]; ROWS]) -> MaybeTime
+    ensures { λ r. ⌜ r ≡ pathIn (now (p .entry)) .silence .quiet ⌝ }
+{
+    let t = p[13];
+    first_time(t)
+}
+
+// Stores the silence clock.
+pub fn set_quiet(p: &mut [[u64; 4]; ROWS], m: MaybeTime)
+    ensures { λ r. ⌜ Says (now (p .entry)) (now (p .exit)) (withQuiet (pathIn (now (p .entry))) m) ⌝ }
+{
+    rows(p);
+    let t = time_row(m);
+    p[13] = t;
+}
+
+// The ladder.
+pub fn ladder(p: &[[u64; 4]; ROWS]) -> Ladder
+    ensures { λ r. ⌜ r ≡ pathIn (now (p .entry)) .ladder ⌝ }
+{
+    let t = p[18];
+    ladder_in(t)
+}
+
+// Stores the ladder.
+pub fn set_ladder(p: &mut [[u64; 4]; ROWS], l: Ladder)
+    ensures { λ r. ⌜ Says (now (p .entry)) (now (p .exit)) (withLadder (pathIn (now (p .entry))) l) ⌝ }
+{
+    rows(p);
+    let t = ladder_row(l);
+    p[18] = t;
+}
+
+// The misses.
+pub fn misses(p: &[[u64; 4]; ROWS]) -> u32
+    ensures { λ r. ⌜ r ≡ pathIn (now (p .entry)) .misses ⌝ }
+{
+    let t = p[21];
+    misses_in(t)
+}
+
+// Stores the misses.
+pub fn set_misses(p: &mut [[u64; 4]; ROWS], n: u32)
+    ensures { λ r. ⌜ Says (now (p .entry)) (now (p .exit)) (withMisses (pathIn (now (p .entry))) n) ⌝ }
+{
+    rows(p);
+    let t = misses_row(n);
+    p[21] = t;
+}
