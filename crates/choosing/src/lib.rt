@@ -9,7 +9,7 @@ use scores::MaybeScore;
 use select::types::*;
 
 // A score, 0 where there is none.
-fn score_in(m: MaybeScore) -> f64
+pub fn score_in(m: MaybeScore) -> f64
     ensures { λ r. ⌜ r ≡ scoreIn m ⌝ }
 {
     match m {
@@ -19,7 +19,7 @@ fn score_in(m: MaybeScore) -> f64
 }
 
 // Whether there is a score.
-fn is_scored(m: MaybeScore) -> bool
+pub fn is_scored(m: MaybeScore) -> bool
     ensures { λ r. ⌜ r ≡ isScored m ⌝ }
 {
     match m {
@@ -29,7 +29,7 @@ fn is_scored(m: MaybeScore) -> bool
 }
 
 // A round trip, 0 where there is none.
-fn time_in(m: MaybeTime) -> u64
+pub fn time_in(m: MaybeTime) -> u64
     ensures { λ r. ⌜ r ≡ timeIn m ⌝ }
 {
     match m {
@@ -39,7 +39,7 @@ fn time_in(m: MaybeTime) -> u64
 }
 
 // Whether there is a round trip.
-fn is_timed(m: MaybeTime) -> bool
+pub fn is_timed(m: MaybeTime) -> bool
     ensures { λ r. ⌜ r ≡ isTimed m ⌝ }
 {
     match m {
@@ -103,7 +103,7 @@ pub fn is_margin(m: f64) -> bool
 }
 
 // The slot that a choice takes, or that no path is open.
-fn choice_reply(m: MaybeRival) -> Reply
+pub fn choice_reply(m: MaybeRival) -> Reply
     ensures { λ r. ⌜ r ≡ choiceReply m ⌝ }
 {
     match m {

@@ -2,18 +2,21 @@
 -- Assumes nothing.
 use Prim.Native.Nat.{ℕ}
 use mathlib.Core.Path.{_≡_, refl, ap, sym, _∙_}
-use mathlib.Core.Bool.{Bool}
+use mathlib.Core.Bool.{Bool, false}
 use mathlib.Core.List.{List}
-use lib.Ieee.{Float, binary64, ofBits}
+use lib.Ieee.{Float, binary64, ofBits, fits}
 use lib.ListN.{set}
+use native.Mathlib.Omega.{arith}
 use Rattle.live.specs.New.{newLiveness}
 use Rattle.live.specs.Path.{withEtx}
+use Rattle.rules.specs.Rules.{noLabel, emptySlot}
 use Rattle.rules.specs.declared.types.Label.{Label}
 use Rattle.rules.specs.declared.types.Slot.{Slot}
 use Rattle.cells.specs.Cells.{sentIn, idsIn, firstTime, stopIn, sizesIn, ladderIn, trafficIn, missesIn, etxIn, sampleIn}
 use Rattle.cells.specs.Cells.{spanIn, labelIn, usedIn}
 use Rattle.cells.specs.Code.{sentRow, idsRow, timeRow, stopRow, untilRow, seekRow, provenRow, ladderRow, arrivalsRow}
 use Rattle.cells.specs.Code.{countersRow, missesRow, etxRow, sampleRow, spanRow, markRow}
+use Rattle.cells.proofs.RowLaws.{etx-says, label-says, used-says}
 use Rattle.rows.specs.View.{ringIn, lateIn, samplesIn, spansIn, pathIn, slotIn}
 use Rattle.rows.specs.Encode.{slotRows, emptyRows}
 
@@ -46,3 +49,14 @@ new-made used l {p} {e} {m} a b c =
       (λ k. slotIn (set (set (a k) 22 e) 64 m)) ∙ new-says e m
       ∙ (λ k. record { path = withEtx newLiveness (b .1 k); label = c .2 k; used = c .1 k }),
     )
+
+-- the rows of an empty slot say it
+pub empty-says : slotIn (slotRows emptySlot) ≡ emptySlot
+unfolding fits ofBits
+empty-says =
+    ap slotIn (sym (new-words false noLabel)) ∙ new-says (etxRow one) (markRow false noLabel)
+    ∙ (λ k. record {
+      path = withEtx newLiveness (etx-says one tt k);
+      label = label-says false noLabel (omega arith) k;
+      used = used-says false noLabel k;
+    })

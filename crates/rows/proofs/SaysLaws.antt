@@ -22,6 +22,7 @@ use Rattle.live.specs.Path.{withRing, withLate, withIds, withSizes, withTraffic
 use Rattle.live.specs.declared.types.Liveness.{Liveness}
 use Rattle.live.specs.declared.types.Traffic.{Traffic}
 use Rattle.rules.specs.declared.types.Reply.{Reply}
+use Rattle.rules.specs.declared.types.Turn.{Turn}
 use Rattle.rules.specs.Rules.{turn}
 use Rattle.cells.specs.Cells.{sentIn, idsIn, firstTime, sizesIn, ladderIn, trafficIn, missesIn, etxIn, sampleIn, spanIn}
 use Rattle.cells.specs.Cells.{labelIn, usedIn}
@@ -69,6 +70,16 @@ turns-none {a} {x} {y} {q} e f =
       slot = λ k. record { path = f k; label = labelIn (row a 64); used = usedIn (row a 64) };
       coded = λ c. c;
       left = λ g. refl;
+    }
+
+-- the turn by another name
+pub turns-as : {a b : List (List ℕ)} {x : Reply} {t u : Turn} → Turns a b x t → t ≡ u → Turns a b x u
+turns-as s e =
+    record {
+      answer = s .answer ∙ ap (λ (z : Turn). z .reply) e;
+      slot = s .slot ∙ ap (λ (z : Turn). z .slot) e;
+      coded = s .coded;
+      left = s .left;
     }
 
 -- ---- each part

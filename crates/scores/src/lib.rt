@@ -19,7 +19,7 @@ pub fn quality(etx: f64, ns: u64) -> f64
 }
 
 // The quality index of an ETX and a round trip, if there is one.
-fn score_of(etx: f64, rtt: MaybeTime) -> MaybeScore
+pub fn score_of(etx: f64, rtt: MaybeTime) -> MaybeScore
     ensures { λ r. ⌜ r ≡ scored etx rtt ⌝ }
 {
     match rtt {

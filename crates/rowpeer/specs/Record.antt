@@ -1,0 +1,33 @@
+-- The record that lent words say, the encoder's words for a record, and what an event on them leaves. t are the four
+-- words of the settings, a the eight slots before and b those after.
+use Prim.Native.Nat.{ℕ}
+use mathlib.Core.Path.{_≡_}
+use mathlib.Core.Bool.{true}
+use mathlib.Core.List.{List, map}
+use Rattle.rules.specs.declared.types.Record.{Record}
+use Rattle.rules.specs.declared.types.Reply.{Reply}
+use Rattle.rules.specs.declared.types.Stepped.{Stepped}
+use Rattle.cells.specs.Cells.{settingsIn}
+use Rattle.rows.specs.View.{slotIn}
+use Rattle.rows.specs.Encode.{slotRows}
+use Rattle.rows.specs.Says.{isRefused}
+
+-- what any words say
+abbrev pub recordIn : List ℕ → List (List (List ℕ)) → Record
+recordIn t a = record { settings = settingsIn t; slots = map slotIn a }
+
+-- the encoder's words for the slots of a record; those of its settings are `settingsRow`
+abbrev pub recordRows : Record → List (List (List ℕ))
+recordRows r = map slotRows (r .slots)
+
+-- the slots' words are the encoder's, spare ones and all
+abbrev pub AreCoded : List (List (List ℕ)) → Type 0
+AreCoded a = map slotRows (map slotIn a) ≡ a
+
+-- an event: its answer x and the record after it are those of s; what was the encoder's is the encoder's; and a refusal
+-- leaves every word
+pub record Steps (t : List ℕ) (a b : List (List (List ℕ))) (x : Reply) (s : Stepped) : Type 0 where
+  pub answer : x ≡ s .reply
+  pub next : recordIn t b ≡ s .next
+  pub coded : AreCoded a → AreCoded b
+  pub left : isRefused x ≡ true → b ≡ a

@@ -1,0 +1,108 @@
+// What is read off a slot's rows: least round trips, the slot as a rival, its standing.
+ghost use mathlib.Core.Path.{_≡_};
+ghost use Rattle.rtt.specs.Samples.{minRtt};
+ghost use Rattle.rtt.specs.Spans.{baseRtt};
+ghost use Rattle.rules.specs.Step.{rivalOf};
+ghost use Rattle.standing.specs.Standing.{standingOf};
+ghost use Rattle.rows.specs.View.{pathIn, slotIn};
+use base::types::*;
+use choosing::*;
+use ring::types::Ids;
+use rows::measures::*;
+use rows::probes::*;
+use rows::whole::*;
+use rtt::types::*;
+use rules::types::Label;
+use seek::types::Sizes;
+use select::types::*;
+use standing::types::Standing;
+
+// The least round trip among the window's samples.
+pub fn min_rtt(p: &[[u64; 4]; ROWS]) -> MaybeTime
+    ensures { λ r. ⌜ r ≡ minRtt (pathIn (now (p .entry)) .rtts .samples) ⌝ }
+{
+    rows(p);
+    let mut least = MaybeTime::None;
+    let mut i: usize = 0;
+    while i < SAMPLES {
+        let s = sample(p, i);
+        i += 1;
+        if s.used {
+            least = base::time::lower(least, s.rtt);
+        }
+    }
+    least
+}
+
+// The least round trip over the horizon.
+pub fn base_rtt(p: &[[u64; 4]; ROWS]) -> MaybeTime
+    ensures { λ r. ⌜ r ≡ baseRtt (pathIn (now (p .entry)) .rtts .spans) ⌝ }
+{
+    rows(p);
+    let mut least = MaybeTime::None;
+    let mut i: usize = 0;
+    while i < SPANS {
+        let s = span(p, i);
+        i += 1;
+        if s.used {
+            least = base::time::lower(least, s.rtt);
+        }
+    }
+    least
+}
+
+// The slot as a rival, under its number.
+pub fn rival(i: usize, p: &[[u64; 4]; ROWS]) -> Rival
+    ensures { λ r. ⌜ r ≡ rivalOf i (slotIn (now (p .entry))) ⌝ }
+{
+    let x = etx(p);
+    let least = min_rtt(p);
+    let base = base_rtt(p);
+    let rtt = trip(p);
+    let score = scores::score_of(x, least);
+    let steady = scores::score_of(x, base);
+    let label = label(p);
+    let role = label.role;
+    let medium = label.medium;
+    Rival {
+        score: score_in(score),
+        steady: score_in(steady),
+        rtt: time_in(rtt),
+        base: time_in(base),
+        index: i,
+        tier: select::media::tier(role),
+        held: used(p),
+        scored: is_scored(score),
+        steadied: is_scored(steady),
+        timed: is_timed(rtt),
+        based: is_timed(base),
+        preferred: label.preferred,
+        pinned: label.pinned,
+        fits: label.fits,
+        medium: medium,
+    }
+}
+
+// What is told of the slot's path.
+pub fn told(p: &[[u64; 4]; ROWS]) -> Standing
+    ensures { λ r. ⌜ r ≡ standingOf (pathIn (now (p .entry))) ⌝ }
+{
+    let m = ids(p);
+    let s = sizes(p);
+    let last = trip(p);
+    let least = min_rtt(p);
+    let base = base_rtt(p);
+    let quiet = quiet(p);
+    let answered = m.answered;
+    let proven = s.proven;
+    Standing {
+        last: last,
+        least: least,
+        base: base,
+        quiet: quiet,
+        etx: etx(p),
+        answered: answered,
+        misses: misses(p),
+        proven: proven,
+    }
+}
