@@ -7,7 +7,7 @@ use rules::types::*;
 use select::types::PATH_MAX_PER_PEER;
 
 // Whether each setting is below 2^62.
-fn is_allowed(t: Settings) -> bool
+pub fn is_allowed(t: Settings) -> bool
     ensures { λ r. ⌜ r ≡ allowed t ⌝ }
 {
     (((t.cap < DURATION_END) & (t.gap < DURATION_END)) & (t.window < DURATION_END))

@@ -1,7 +1,7 @@
 -- Any list of calls from a new record on.
 -- Assumes nothing.
 use Prim.Native.Nat.{ℕ}
-use mathlib.Core.Path.{_≡_, refl, ap, sym, _∙_}
+use mathlib.Core.Path.{_≡_, refl, ap, sym, subst, _∙_}
 use mathlib.Core.List.{List, [], _∷_, map}
 use Rattle.rules.specs.Event.{numberOf, valueOf}
 use Rattle.rules.specs.Step.{Entry, freshRecord, step, run, trace}

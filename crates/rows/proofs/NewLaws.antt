@@ -3,7 +3,7 @@
 use Prim.Native.Nat.{ℕ}
 use mathlib.Core.Path.{_≡_, refl, ap, sym, _∙_}
 use mathlib.Core.Bool.{Bool, false}
-use mathlib.Core.List.{List}
+use mathlib.Core.List.{List, [], _∷_}
 use lib.Ieee.{Float, binary64, ofBits, fits}
 use lib.ListN.{set}
 use native.Mathlib.Omega.{arith}
@@ -60,3 +60,10 @@ empty-says =
       label = label-says false noLabel (omega arith) k;
       used = used-says false noLabel k;
     })
+
+-- a new slot whose label is that of zeros is empty
+pub empty-made : {l : Label} {p : List (List ℕ)} → l ≡ labelIn (0 ∷ 0 ∷ 0 ∷ 0 ∷ [])
+    → (p ≡ slotRows (newSlot false l)) × (slotIn p ≡ newSlot false l) → (p ≡ slotRows emptySlot) × (slotIn p ≡ emptySlot)
+unfolding labelIn
+empty-made e f =
+    (f .0 ∙ ap (λ (x : Label). slotRows (newSlot false x)) e, f .1 ∙ ap (λ (x : Label). newSlot false x) e)

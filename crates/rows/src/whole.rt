@@ -1,6 +1,7 @@
 // The slot as a whole: its marks, and a new or an empty one stored over all rows.
 ghost use mathlib.Core.Path.{_≡_};
 ghost use Rattle.live.specs.New.{newLiveness};
+ghost use Rattle.rules.specs.Rules.{emptySlot};
 ghost use Rattle.rows.specs.View.{slotIn};
 ghost use Rattle.rows.specs.Encode.{slotRows, emptyRows};
 use cells::marks::*;
@@ -47,4 +48,13 @@ pub fn set_new(p: &mut [[u64; 4]; ROWS], used: bool, label: Label)
     let marks = mark_row(used, label);
     p[22] = etx;
     p[64] = marks;
+}
+
+// Stores an empty slot.
+pub fn set_empty(p: &mut [[u64; 4]; ROWS])
+    ensures { λ r. ⌜ (now (p .exit) ≡ slotRows emptySlot) × (slotIn (now (p .exit)) ≡ emptySlot) ⌝ }
+{
+    let zeros = [0, 0, 0, 0];
+    let label = label_in(zeros);
+    set_new(p, false, label);
 }
