@@ -1,0 +1,47 @@
+-- `rowsizes::fresh` meets its contract.
+-- Assumes nothing.
+use Rattle.rowsizes.proofs.SizeLaws.{fresh-made}
+use borrow.Author.Needs.{needs}
+use Rattle.rowsizes.proofs.fresh.Statement.{statement}
+use Rattle.rowsizes.proofs.fresh.Tie as tie
+
+sizes-requires : tie.Need-sizes-requires
+sizes-requires c κs = search needs
+
+ids-requires : tie.Need-ids-requires
+ids-requires c κs = search needs
+
+fresh-ids-requires : tie.Need-fresh-ids-requires
+fresh-ids-requires c κs = search needs
+
+fresh-sizes-requires : tie.Need-fresh-sizes-requires
+fresh-sizes-requires c κs = search needs
+
+set-ids-requires : tie.Need-set-ids-requires
+set-ids-requires c κs = search needs
+
+set-misses-requires : tie.Need-set-misses-requires
+set-misses-requires c κs = search needs
+
+set-sizes-requires : tie.Need-set-sizes-requires
+set-sizes-requires c κs = search needs
+
+set-ladder-requires : tie.Need-set-ladder-requires
+set-ladder-requires c κs = search needs
+
+returns : tie.Need-returns
+returns c = fresh-made (c .before .before .before .before .before .before .before .before .before .before .before .before .sizes .ensures) (c .before .before .before .before .before .before .before .before .before .before .ids .ensures) (c .before .before .before .before .before .before .before .before .before .fresh-ids .ensures) (c .before .before .before .before .before .before .before .before .fresh-sizes .ensures) (c .before .before .before .before .before .before .set-ids .ensures) (c .before .before .before .before .set-misses .ensures) (c .before .before .set-sizes .ensures) (c .set-ladder .ensures)
+
+pub fresh-spec : {M : Type 1} → statement M
+fresh-spec =
+    tie.close
+    (tie.spec
+    sizes-requires
+    ids-requires
+    fresh-ids-requires
+    fresh-sizes-requires
+    set-ids-requires
+    set-misses-requires
+    set-sizes-requires
+    set-ladder-requires
+    returns)

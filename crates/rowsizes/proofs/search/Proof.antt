@@ -1,0 +1,67 @@
+-- `rowsizes::search` meets its contract.
+-- Assumes nothing.
+use Rattle.rowsizes.proofs.SizeLaws.{search-small, search-none, search-sent}
+use borrow.Author.Needs.{needs}
+use Rattle.rowsizes.proofs.search.Statement.{statement}
+use Rattle.rowsizes.proofs.search.Tie as tie
+
+label-requires : tie.Need-label-requires
+label-requires c κs = search needs
+
+returns : tie.Need-returns
+returns c = search-small _ (c .before .before .before .args .e) (c .before .label .ensures) (c .if1 .taken)
+
+sizes-requires : tie.Need-sizes-requires
+sizes-requires c κs = search needs
+
+seek-size-requires : tie.Need-seek-size-requires
+seek-size-requires c κs = search needs
+
+enum-known-proposal : tie.Need-enum-known-proposal
+enum-known-proposal c = search needs
+
+enum-told : tie.Need-enum-told
+enum-told c = search needs
+
+returns-2 : tie.Need-returns-2
+returns-2 c = search-none _ (c .before .before .before .before .before .before .before .before .args .e) (c .before .before .before .before .before .before .label .ensures) (c .before .before .before .before .before .if1 .left) (c .before .before .before .sizes .ensures) (c .before .before .seek-size .ensures) (c .enum-told .given .1)
+
+ids-requires : tie.Need-ids-requires
+ids-requires c κs = search needs
+
+taken-requires : tie.Need-taken-requires
+taken-requires c κs = search needs
+
+next-ids-requires : tie.Need-next-ids-requires
+next-ids-requires c κs = search needs
+
+seek-send-requires : tie.Need-seek-send-requires
+seek-send-requires c κs = search needs
+
+set-ids-requires : tie.Need-set-ids-requires
+set-ids-requires c κs = search needs
+
+set-sizes-requires : tie.Need-set-sizes-requires
+set-sizes-requires c κs = search needs
+
+returns-3 : tie.Need-returns-3
+returns-3 c = search-sent _ (c .before .before .before .before .before .before .before .before .before .before .before .before .before .before .before .before .before .before .args .e) (c .before .before .before .before .before .before .before .before .before .before .before .before .before .before .before .before .label .ensures) (c .before .before .before .before .before .before .before .before .before .before .before .before .before .before .before .if1 .left) (c .before .before .before .before .before .before .before .before .before .before .before .before .before .sizes .ensures) (c .before .before .before .before .before .before .before .before .before .before .before .before .seek-size .ensures) (c .before .before .before .before .before .before .before .before .before .before .proposal .given .1) (search needs) (c .before .before .before .before .before .before .before .ids .ensures) (c .before .before .before .before .before .before .taken .ensures) (c .before .before .before .before .before .next-ids .ensures) (c .before .before .before .before .seek-send .ensures) (c .before .before .set-ids .ensures) (c .set-sizes .ensures)
+
+pub search-spec : {M : Type 1} → statement M
+search-spec =
+    tie.close
+    (tie.spec
+    label-requires
+    returns
+    sizes-requires
+    seek-size-requires
+    enum-known-proposal
+    enum-told
+    returns-2
+    ids-requires
+    taken-requires
+    next-ids-requires
+    seek-send-requires
+    set-ids-requires
+    set-sizes-requires
+    returns-3)

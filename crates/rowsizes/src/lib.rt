@@ -1,0 +1,130 @@
+// What the events on sizes do to a slot's rows: prove, search, judge, fresh; and the search probe's part of an answer.
+ghost use Rattle.live.specs.Search.{proveOf, freshOf, seekSizeOf, seekAnswerOf, seekJudgeOf};
+ghost use Rattle.rules.specs.Rules.{turn, turnBy, searched};
+ghost use Rattle.rules.specs.declared.types.Reply.the-variants.{Nothing};
+ghost use Rattle.rows.specs.View.{pathIn, slotIn};
+ghost use Rattle.rows.specs.Says.{Turns};
+ghost use Rattle.rowsizes.specs.Settles.{Settles};
+use base::limits::*;
+use base::types::*;
+use rows::measures::*;
+use rows::probes::*;
+use rules::types::*;
+use seek::types::Ladder;
+
+// Prove: a length out of range changes nothing.
+pub fn prove(p: &mut [[u64; 4]; ROWS], e: Event) -> Reply
+    ensures { λ r. ⌜ Turns (now (p .entry)) (now (p .exit)) r
+        (turn (slotIn (now (p .entry))) (proveOf (pathIn (now (p .entry))) (e .len) .path) Nothing) ⌝ }
+{
+    let len = e.len;
+    if MAX_LEN < len {
+        return Reply::Nothing;
+    }
+    if len < MIN_LEN {
+        return Reply::Nothing;
+    }
+    let old = sizes(p);
+    let proving = seek::search::prove(old, len as u16);
+    let proven = proving.sizes;
+    set_sizes(p, proven);
+    Reply::Nothing
+}
+
+// Search: the size that is proposed is sent, under the path's next identifier.
+pub fn search(p: &mut [[u64; 4]; ROWS], e: Event) -> Reply
+    ensures { λ r. ⌜ Turns (now (p .entry)) (now (p .exit)) r (searched
+        (seekSizeOf (pathIn (now (p .entry))) (slotIn (now (p .entry)) .label .full) (e .now))
+        (slotIn (now (p .entry))) e) ⌝ }
+{
+    let label = rows::whole::label(p);
+    let full = label.full;
+    if full < PATH_PROBE_MIN_SIZE {
+        return Reply::Refused(Refusal::Length);
+    }
+    let old = sizes(p);
+    let proposal = seek::search::seek_size(old, full, e.now);
+    let MaybeLen::Some(len) = proposal else {
+        return Reply::Refused(Refusal::NoSize);
+    };
+    let before = ids(p);
+    let next = before.next_id;
+    let id = ring::ids::taken(next, e.id);
+    let after = ring::ids::next_ids(before, id);
+    let sent = seek::search::seek_send(old, e.now, len, id);
+    set_ids(p, after);
+    set_sizes(p, sent);
+    Reply::Id(id)
+}
+
+// Judge.
+pub fn judge(p: &mut [[u64; 4]; ROWS], e: Event, gap: u64) -> Reply
+    ensures { λ r. ⌜ Turns (now (p .entry)) (now (p .exit)) r
+        (turnBy (slotIn (now (p .entry))) (seekJudgeOf (pathIn (now (p .entry))) (e .now) (e .span) gap)) ⌝ }
+{
+    let timeout = e.span;
+    if DURATION_END <= timeout {
+        return Reply::Refused(Refusal::Duration);
+    }
+    if DURATION_END <= gap {
+        return Reply::Refused(Refusal::Duration);
+    }
+    let old = sizes(p);
+    let ids = ids(p);
+    let answered = ids.answered;
+    let judged = seek::search::seek_judge(old, answered, e.now, timeout, gap);
+    if judged.lost {
+        let sizes = judged.sizes;
+        set_sizes(p, sizes);
+        return Reply::Lost;
+    }
+    Reply::Waits
+}
+
+// Fresh.
+pub fn fresh(p: &mut [[u64; 4]; ROWS]) -> Reply
+    ensures { λ r. ⌜ Turns (now (p .entry)) (now (p .exit)) r
+        (turn (slotIn (now (p .entry))) (freshOf (pathIn (now (p .entry)))) Nothing) ⌝ }
+{
+    let old = sizes(p);
+    let before = ids(p);
+    let after = ring::ids::fresh_ids(before);
+    let again = seek::search::fresh_sizes(old);
+    let none = MaybeLen::None;
+    let ladder = Ladder {
+        last: none,
+        fallen: false,
+    };
+    set_ids(p, after);
+    set_misses(p, 0);
+    set_sizes(p, again);
+    set_ladder(p, ladder);
+    Reply::Nothing
+}
+
+// The search probe's part of an answer: whether the identifier names it; then it is settled, and what was acknowledged
+// is proven or lost.
+pub fn settle(p: &mut [[u64; 4]; ROWS], e: Event, gap: u64) -> bool
+    ensures { λ r. ⌜ Settles (now (p .entry)) (now (p .exit)) r
+        (seekAnswerOf (pathIn (now (p .entry))) (e .id) gap) (e .acked) (e .now) ⌝ }
+{
+    if DURATION_END <= gap {
+        return false;
+    }
+    let old = sizes(p);
+    let settled = seek::search::seek_answer(old, e.id, gap);
+    let found = settled.len;
+    let MaybeLen::Some(len) = found else {
+        return false;
+    };
+    let free = settled.sizes;
+    let acked = e.acked;
+    if MAX_LEN < acked {
+        set_sizes(p, free);
+        return true;
+    }
+    let proved = seek::search::seek_proved(free, len, acked as u16, e.now);
+    let sizes = proved.sizes;
+    set_sizes(p, sizes);
+    true
+}

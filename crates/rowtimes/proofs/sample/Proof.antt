@@ -1,0 +1,39 @@
+-- `rowtimes::sample` meets its contract.
+-- Assumes nothing.
+use Rattle.rowtimes.proofs.EventLaws.{sample-endless, sample-window, sample-horizon, sample-made}
+use borrow.Author.Needs.{needs}
+use Rattle.rowtimes.proofs.sample.Statement.{statement}
+use Rattle.rowtimes.proofs.sample.Tie as tie
+
+returns : tie.Need-returns
+returns c = sample-endless _ _ _ _ _ (c .if1 .taken)
+
+returns-2 : tie.Need-returns-2
+returns-2 c = sample-window _ _ _ _ _ (c .before .if1 .left) (c .if2 .taken)
+
+returns-3 : tie.Need-returns-3
+returns-3 c = sample-horizon _ _ _ _ _ (c .before .before .if1 .left) (c .before .if2 .left) (c .if3 .taken)
+
+rtts-requires : tie.Need-rtts-requires
+rtts-requires c κs = search needs
+
+sample-requires : tie.Need-sample-requires
+sample-requires c κs = search needs
+
+set-rtts-requires : tie.Need-set-rtts-requires
+set-rtts-requires c κs = search needs
+
+returns-4 : tie.Need-returns-4
+returns-4 c = sample-made _ _ _ _ _ (c .before .before .before .before .before .before .before .if1 .left) (c .before .before .before .before .before .before .if2 .left) (c .before .before .before .before .before .if3 .left) (c .before .before .before .rtts .ensures) (c .before .before .sample .ensures) (c .set-rtts .ensures)
+
+pub sample-spec : {M : Type 1} → statement M
+sample-spec =
+    tie.close
+    (tie.spec
+    returns
+    returns-2
+    returns-3
+    rtts-requires
+    sample-requires
+    set-rtts-requires
+    returns-4)

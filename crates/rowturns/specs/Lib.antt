@@ -1,0 +1,1 @@
+-- One event on a slot's rows.

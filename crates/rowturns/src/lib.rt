@@ -1,0 +1,68 @@
+// One event on a slot's rows: the refusals that are tried first, then the work of the event's kind.
+ghost use Rattle.live.specs.Search.{seekAnswerOf};
+ghost use Rattle.rules.specs.Rules.{answered, onSlot};
+ghost use Rattle.turns.specs.Turns.{workBy};
+ghost use Rattle.rows.specs.View.{pathIn, slotIn};
+ghost use Rattle.rows.specs.Says.{Turns};
+use base::types::Refusal;
+use rowprobes::events::*;
+use rows::probes::ROWS;
+use rowsizes::*;
+use rowtimes::*;
+use rules::types::*;
+use slots::*;
+use turns::refuse::*;
+use works::turned::first_flag;
+
+pub mod slots;
+
+// Answer: the search probe first, then the ring.
+fn answer(p: &mut [[u64; 4]; ROWS], e: Event, gap: u64) -> Reply
+    ensures { λ r. ⌜ Turns (now (p .entry)) (now (p .exit)) r
+        (answered (seekAnswerOf (pathIn (now (p .entry))) (e .id) gap) (slotIn (now (p .entry))) e) ⌝ }
+{
+    if settle(p, e, gap) {
+        return Reply::Search;
+    }
+    answer_ring(p, e.id)
+}
+
+// The work of the event's kind, but for an open.
+fn work(t: Settings, p: &mut [[u64; 4]; ROWS], e: Event) -> Reply
+    ensures { λ r. ⌜ Turns (now (p .entry)) (now (p .exit)) r (workBy t (slotIn (now (p .entry))) e) ⌝ }
+{
+    let k = e.kind;
+    match k {
+        2 => probe(p, e),
+        3 => answer(p, e, t.gap),
+        4 => poll(p, e.now, first_flag(e), t.cap),
+        5 => sample(p, e, t.window, t.horizon),
+        6 => fold(p, first_flag(e)),
+        7 => prove(p, e),
+        8 => search(p, e),
+        9 => judge(p, e, t.gap),
+        10 => received(p, e),
+        11 => fresh(p),
+        12 => thaw(p),
+        13 => sweep(p),
+        14 => close(p),
+        _ => Reply::Refused(Refusal::Kind),
+    }
+}
+
+// The first refusal, with every word as it came; else the work.
+pub fn on_rows(t: Settings, p: &mut [[u64; 4]; ROWS], e: Event) -> Reply
+    ensures { λ r. ⌜ Turns (now (p .entry)) (now (p .exit)) r (onSlot t (slotIn (now (p .entry))) e) ⌝ }
+{
+    let held = rows::whole::used(p);
+    let v = first_refusal(held, e);
+    match v {
+        Verdict::Refused(why) => Reply::Refused(why),
+        Verdict::Pass => {
+            if e.kind == 1 {
+                return open(p, e);
+            }
+            work(t, p, e)
+        }
+    }
+}

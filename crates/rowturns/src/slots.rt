@@ -1,0 +1,28 @@
+// The slots that open and close leave in rows.
+ghost use Prim.Native.Nat.{_%_};
+ghost use Rattle.rules.specs.Rules.{emptySlot};
+ghost use Rattle.rules.specs.declared.types.Reply.the-variants.{Nothing};
+ghost use Rattle.turns.specs.Turns.{openedAs};
+ghost use Rattle.rows.specs.Says.{Turns};
+use rows::probes::ROWS;
+use rows::whole::*;
+use rules::types::*;
+
+// Open: a path that has done nothing, with the event's flags and full size.
+pub fn open(p: &mut [[u64; 4]; ROWS], e: Event) -> Reply
+    ensures { λ r. ⌜ Turns (now (p .entry)) (now (p .exit)) r
+        (record { slot = openedAs e (e .len % 65536); reply = Nothing }) ⌝ }
+{
+    let t = [1, e.len as u64, e.flags as u64, 0];
+    let label = cells::marks::label_in(t);
+    set_new(p, true, label);
+    Reply::Nothing
+}
+
+// Close: an empty slot.
+pub fn close(p: &mut [[u64; 4]; ROWS]) -> Reply
+    ensures { λ r. ⌜ Turns (now (p .entry)) (now (p .exit)) r (record { slot = emptySlot; reply = Nothing }) ⌝ }
+{
+    set_empty(p);
+    Reply::Nothing
+}
