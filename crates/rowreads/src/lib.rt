@@ -1,7 +1,5 @@
-// What is read off a slot's rows: least round trips, the slot as a rival, its standing.
+// What is read off a slot's rows: the slot as a rival, and its standing.
 ghost use mathlib.Core.Path.{_≡_};
-ghost use Rattle.rtt.specs.Samples.{minRtt};
-ghost use Rattle.rtt.specs.Spans.{baseRtt};
 ghost use Rattle.rules.specs.Step.{rivalOf};
 ghost use Rattle.standing.specs.Standing.{standingOf};
 ghost use Rattle.rows.specs.View.{pathIn, slotIn};
@@ -11,45 +9,11 @@ use ring::types::Ids;
 use rows::measures::*;
 use rows::probes::*;
 use rows::whole::*;
-use rtt::types::*;
+use rowtimes::trips::*;
 use rules::types::Label;
 use seek::types::Sizes;
 use select::types::*;
 use standing::types::Standing;
-
-// The least round trip among the window's samples.
-pub fn min_rtt(p: &[[u64; 4]; ROWS]) -> MaybeTime
-    ensures { λ r. ⌜ r ≡ minRtt (pathIn (now (p .entry)) .rtts .samples) ⌝ }
-{
-    rows(p);
-    let mut least = MaybeTime::None;
-    let mut i: usize = 0;
-    while i < SAMPLES {
-        let s = sample(p, i);
-        i += 1;
-        if s.used {
-            least = base::time::lower(least, s.rtt);
-        }
-    }
-    least
-}
-
-// The least round trip over the horizon.
-pub fn base_rtt(p: &[[u64; 4]; ROWS]) -> MaybeTime
-    ensures { λ r. ⌜ r ≡ baseRtt (pathIn (now (p .entry)) .rtts .spans) ⌝ }
-{
-    rows(p);
-    let mut least = MaybeTime::None;
-    let mut i: usize = 0;
-    while i < SPANS {
-        let s = span(p, i);
-        i += 1;
-        if s.used {
-            least = base::time::lower(least, s.rtt);
-        }
-    }
-    least
-}
 
 // The slot as a rival, under its number.
 pub fn rival(i: usize, p: &[[u64; 4]; ROWS]) -> Rival
