@@ -4,9 +4,13 @@ use Prim.Native.Nat.{ℕ}
 use mathlib.Core.Path.{_≡_}
 use mathlib.Core.Bool.{true}
 use mathlib.Core.List.{List, map}
+use Rattle.base.specs.declared.types.Refusal.the-variants as refusal
 use Rattle.rules.specs.declared.types.Record.{Record}
 use Rattle.rules.specs.declared.types.Reply.{Reply}
+use Rattle.rules.specs.declared.types.Reply.the-variants as reply
 use Rattle.rules.specs.declared.types.Stepped.{Stepped}
+use Rattle.turns.specs.declared.refuse.Verdict.{Verdict}
+use Rattle.turns.specs.declared.refuse.Verdict.the-variants as verdict
 use Rattle.cells.specs.Cells.{settingsIn}
 use Rattle.rows.specs.View.{slotIn}
 use Rattle.rows.specs.Encode.{slotRows}
@@ -31,3 +35,8 @@ pub record Steps (t : List ℕ) (a b : List (List (List ℕ))) (x : Reply) (s : 
   pub next : recordIn t b ≡ s .next
   pub coded : AreCoded a → AreCoded b
   pub left : isRefused x ≡ true → b ≡ a
+
+-- the answer to an event whose slot is none, by the first refusal: 15, else 1
+abbrev pub beyondOf : Verdict → Reply
+beyondOf (verdict.Refused why) = reply.Refused why
+beyondOf verdict.Pass = reply.Refused refusal.Slot

@@ -3,6 +3,7 @@ ghost use Rattle.rowpeer.specs.Calls.{CallsHold};
 
 pub mod choice;
 pub mod record;
+pub mod standings;
 
 // What holds after any list of calls on one record.
 pub fn calls()

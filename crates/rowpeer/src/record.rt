@@ -1,17 +1,21 @@
-// A record in lent words, made new.
+// A record in lent words: made new, and changed by one of the fifteen events.
 ghost use mathlib.Core.Path.{_≡_};
-ghost use mathlib.Core.Bool.{cond};
+ghost use mathlib.Core.Bool.{cond, false};
 ghost use lib.ListN.{replicate};
-ghost use Rattle.rules.specs.Rules.{emptySlot};
-ghost use Rattle.rules.specs.Step.{allowed, freshRecord, recordOf};
+ghost use Rattle.rules.specs.Rules.{emptySlot, refusals};
+ghost use Rattle.rules.specs.Step.{allowed, freshRecord, recordOf, step};
+ghost use Rattle.turns.specs.Turns.{verdictOf};
+ghost use Rattle.cells.specs.Cells.{settingsIn};
 ghost use Rattle.cells.specs.Code.{settingsRow};
 ghost use Rattle.rows.specs.Encode.{slotRows};
-ghost use Rattle.rowpeer.specs.Record.{recordRows};
+ghost use Rattle.rowpeer.specs.Record.{recordIn, recordRows, beyondOf, Steps};
 use base::types::Refusal;
+use crate::choice::chosen;
 use crate::choice::slots;
 use rows::probes::ROWS;
 use rules::types::*;
 use select::types::PATH_MAX_PER_PEER;
+use turns::refuse::*;
 
 // Stores eight empty slots.
 fn empty(rec: &mut [[[u64; 4]; ROWS]; PATH_MAX_PER_PEER])
@@ -46,4 +50,44 @@ pub fn new(t: &mut [u64; 4], rec: &mut [[[u64; 4]; ROWS]; PATH_MAX_PER_PEER], s:
         return Reply::Nothing;
     }
     Reply::Refused(Refusal::Duration)
+}
+
+// The settings that four words say.
+fn settings(t: &[u64; 4]) -> Settings
+    ensures { λ r. ⌜ r ≡ settingsIn (now (t .entry)) ⌝ }
+{
+    Settings {
+        cap: t[0],
+        gap: t[1],
+        window: t[2],
+        horizon: t[3],
+    }
+}
+
+// The refusal of an event whose slot is none.
+fn beyond(e: Event) -> Reply
+    ensures { λ r. ⌜ r ≡ beyondOf (verdictOf (refusals false e)) ⌝ }
+{
+    let v = first_refusal(false, e);
+    match v {
+        Verdict::Refused(why) => Reply::Refused(why),
+        Verdict::Pass => Reply::Refused(Refusal::Slot),
+    }
+}
+
+// One event: choose, or the work on its slot.
+pub fn event(t: &[u64; 4], rec: &mut [[[u64; 4]; ROWS]; PATH_MAX_PER_PEER], e: Event) -> Reply
+    ensures { λ r. ⌜ Steps (now (t .entry)) (now (rec .entry)) (now (rec .exit)) r
+        (step (recordIn (now (t .entry)) (now (rec .entry))) e) ⌝ }
+{
+    slots(rec);
+    if e.kind == 15 {
+        return chosen(rec, e.span);
+    }
+    if 7 < e.slot {
+        return beyond(e);
+    }
+    let s = settings(t);
+    let i = e.slot as usize;
+    rowturns::on_rows(s, &mut rec[i], e)
 }

@@ -41,7 +41,7 @@ unfolding labelIn
 open-label e h = ap (λ (l : Label). newSlot true l) h
 
 -- an answer that the search probe's part took, and one that it left to the ring
-module _ {a b : List (List ℕ)} {d : Outcome} {e : Event} {r : Bool} (h : Settles a b r d (e .acked) (e .now)) where
+module _ (e : Event) {a b : List (List ℕ)} {d : Outcome} {r : Bool} (h : Settles a b r d (e .acked) (e .now)) where
   pub answer-search : r ≡ true → Turns a b reply.Search (answered d (slotIn a) e)
   answer-search q = turns-as (turns-by (h .proved q) refl refl) (sym (rw (sym (h .named) ∙ q)))
 

@@ -1,0 +1,89 @@
+-- One event on a record in words, by choose, a slot of the record, or one that is none.
+-- Assumes nothing.
+use Prim.Native.Nat.{ℕ, _<_, _≤_}
+use mathlib.Core.Path.{_≡_, refl, ap, sym, _∙_}
+use mathlib.Core.Bool.{Bool, true, false, _||_}
+use mathlib.Core.List.{List, [], map}
+use native.Mathlib.Omega.{arith}
+use borrow.Author.Tests.{lt-ltb}
+use lib.Dec.{eqb, ltb}
+use lib.ListN.{length, set, getD, length-map, List·getD-map}
+use lib.Seq.{set-getD}
+use Rattle.base.proofs.Cases.{on-flag}
+use Rattle.rules.specs.Rules.{emptySlot, refusals, onSlot}
+use Rattle.rules.specs.Step.{put, step}
+use Rattle.rules.specs.declared.types.Event.{Event}
+use Rattle.rules.specs.declared.types.Reply.{Reply}
+use Rattle.rules.specs.declared.types.Settings.{Settings}
+use Rattle.rules.specs.declared.types.Slot.{Slot}
+use Rattle.rules.specs.declared.types.Stepped.{Stepped}
+use Rattle.rules.specs.declared.types.Turn.{Turn}
+use Rattle.choosing.specs.Choosing.{chosenOf}
+use Rattle.turns.specs.Turns.{verdictOf}
+use Rattle.peer.proofs.EventLaws.{getD-any, step-choose, step-in, step-out}
+use Rattle.cells.specs.Cells.{settingsIn}
+use Rattle.rows.specs.View.{slotIn}
+use Rattle.rows.specs.Encode.{slotRows}
+use Rattle.rows.specs.Says.{Turns, isRefused}
+use Rattle.rows.proofs.BlockLaws.{map-set}
+use Rattle.rowpeer.specs.Record.{recordIn, AreCoded, beyondOf, Steps}
+
+-- nothing stored
+still : (t : List ℕ) (a : List (List (List ℕ))) {x : Reply} {s : Stepped} (y : Reply) → x ≡ y
+    → s ≡ record { next = recordIn t a; reply = y } → Steps t a a x s
+still t a {x} {s} y q e =
+    record {
+      answer = q ∙ sym (ap (λ (z : Stepped). z .reply) e);
+      next = sym (ap (λ (z : Stepped). z .next) e);
+      coded = λ c. c;
+      left = λ g. refl;
+    }
+
+-- the answer to an event whose slot is none
+beyond : (t : Settings) (e : Event) → 7 < e .slot
+    → beyondOf (verdictOf (refusals false e)) ≡ onSlot t emptySlot e .reply
+unfolding onSlot
+beyond t e h =
+    let k : ltb 7 (e .slot) ≡ true = lt-ltb 7 (e .slot) h in
+    on-flag (ltb (e .kind) 1 || ltb 15 (e .kind)) (λ q. rw q) (λ q. rw (q, k))
+
+module _ (t : List ℕ) (a : List (List (List ℕ))) (e : Event) where
+  pub steps-choose : {x : Reply} → e .kind ≡ 15 → x ≡ chosenOf (map slotIn a) (e .span)
+      → Steps t a a x (step (recordIn t a) e)
+  steps-choose k q = still t a (chosenOf (map slotIn a) (e .span)) q (step-choose (recordIn t a) e k)
+
+  pub steps-out : {x : Reply} → length a ≡ 8 → eqb (e .kind) 15 ≡ false → 7 < e .slot
+      → x ≡ beyondOf (verdictOf (refusals false e)) → Steps t a a x (step (recordIn t a) e)
+  steps-out {x} n k h q =
+      let o : length (map slotIn a) ≤ e .slot = omega (arith, length-map a slotIn) in
+      still t a (onSlot (settingsIn t) emptySlot e .reply) (q ∙ beyond (settingsIn t) e h) (step-out (recordIn t a) e k o)
+
+  pub steps-in : {s : Settings} {q : List (List ℕ)} {x : Reply} → length a ≡ 8 → eqb (e .kind) 15 ≡ false → e .slot ≤ 7
+      → s ≡ settingsIn t
+      → Turns (getD a (e .slot) []) q x (onSlot s (slotIn (getD a (e .slot) [])) e)
+      → Steps t a (set a (e .slot) q) x (step (recordIn t a) e)
+  steps-in {s} {q} {x} n k h g u =
+      let i : ℕ = e .slot in
+      let o : i < length a = omega (arith, n) in
+      let p : i < length (map slotIn a) = omega (arith, n, length-map a slotIn) in
+      let v : Turn = onSlot s (slotIn (getD a i [])) e in
+      let f : step (recordIn t a) e ≡ put (recordIn t a) i v =
+          step-in (recordIn t a) e (slotIn []) k p
+          ∙ (λ j. put (recordIn t a) i (onSlot (sym g j) (List·getD-map slotIn a i [] j) e)) in
+      record {
+        answer = u .answer ∙ sym (ap (λ (z : Stepped). z .reply) f);
+        next =
+            (λ j. record { settings = settingsIn t; slots = map-set slotIn a i q j })
+            ∙ (λ j. record { settings = settingsIn t; slots = set (map slotIn a) i (u .slot j) })
+            ∙ sym (ap (λ (z : Stepped). z .next) f);
+        coded =
+            λ c.
+            let w : slotRows (slotIn (getD a i [])) ≡ getD a i [] =
+                sym (List·getD-map slotRows (map slotIn a) i (slotIn []) ∙ ap slotRows (List·getD-map slotIn a i []))
+                ∙ ap (λ (z : List (List (List ℕ))). getD z i (slotRows (slotIn []))) c
+                ∙ getD-any a i (slotRows (slotIn [])) [] o in
+            ap (map slotRows) (map-set slotIn a i q)
+            ∙ map-set slotRows (map slotIn a) i (slotIn q)
+            ∙ (λ j. set (c j) i (u .coded w j));
+        left = λ r. ap (λ (z : List (List ℕ)). set a i z) (u .left r) ∙ set-getD a i [];
+      }

@@ -1,0 +1,28 @@
+-- `rowturns::slots::open` meets its contract.
+-- Assumes nothing.
+use mathlib.Core.Path.{refl, ap}
+use Rattle.rules.specs.declared.types.Reply.the-variants.{Nothing}
+use Rattle.rules.specs.declared.types.Slot.{Slot}
+use Rattle.rows.proofs.SaysLaws.{turns-as}
+use Rattle.rowturns.proofs.TurnLaws.{turns-whole, open-label}
+use borrow.Author.Needs.{needs}
+use Rattle.rowturns.proofs.slots.open.Statement.{statement}
+use Rattle.rowturns.proofs.slots.open.Tie as tie
+
+cast-t5 : tie.Need-cast-t5
+cast-t5 c = search needs
+
+cast-t6 : tie.Need-cast-t6
+cast-t6 c = search needs
+
+label-in-requires : tie.Need-label-in-requires
+label-in-requires c κs = search needs
+
+set-new-requires : tie.Need-set-new-requires
+set-new-requires c κs = search needs
+
+returns : tie.Need-returns
+returns c = turns-as (turns-whole (c .set-new .ensures) refl refl) (ap (λ (s : Slot). record { slot = s; reply = Nothing }) (open-label (c .before .before .before .before .before .args .e) (c .before .before .label-in .ensures)))
+
+pub open-spec : {M : Type 1} → statement M
+open-spec = tie.close (tie.spec cast-t5 cast-t6 label-in-requires set-new-requires returns)
