@@ -1,0 +1,135 @@
+-- What an event on rows leaves, from what its stores say: the rows after each store are a variable here.
+-- Assumes nothing.
+use Prim.Native.Nat.{ℕ, _<_, _≤_}
+use mathlib.Core.Path.{_≡_, refl, ap, sym, _∙_}
+use mathlib.Core.List.{List}
+use borrow.Author.Tests.{lt-leb, le-leb, lt-ltb, le-ltb}
+use lib.ListN.{set, replicate}
+use Rattle.base.specs.Limits.{maxLen}
+use Rattle.base.specs.declared.types.MaybeLen.the-variants as len
+use Rattle.base.specs.declared.types.MaybeTime.{MaybeTime}
+use Rattle.base.specs.declared.types.MaybeTime.the-variants as time
+use Rattle.base.specs.declared.types.Refusal.the-variants.{Length, Full, Unknown}
+use Rattle.ring.specs.Ids.{takenOf, nextIds, answeredIds, thawedIds}
+use Rattle.ring.specs.Ring.{maxWaiting, maxLate, firstFree, dropSince, found, takenOut, noSent, swept, outstandingOf}
+use Rattle.ring.specs.declared.types.Ids.{Ids}
+use Rattle.ring.specs.declared.types.Sent.{Sent}
+use Rattle.seek.specs.declared.types.Ladder.{Ladder}
+use Rattle.stop.specs.Silence.{fromOf}
+use Rattle.live.specs.Path.{withRing, withLate, withIds, withLadder, withMisses}
+use Rattle.live.specs.Probe.{newSent, sentPath, sendOf, answerOf, clearOf, thawOf}
+use Rattle.live.specs.declared.types.Liveness.{Liveness}
+use Rattle.rules.specs.Rules.{turn, turnBy}
+use Rattle.rules.specs.declared.types.Reply.{Reply}
+use Rattle.rules.specs.declared.types.Reply.the-variants as reply
+use Rattle.rules.specs.declared.types.Turn.{Turn}
+use Rattle.rows.specs.Parts.{withQuiet}
+use Rattle.rows.specs.View.{pathIn, slotIn}
+use Rattle.rows.specs.Says.{Says, Turns}
+use Rattle.rows.proofs.SaysLaws.{says-as, turns-by, turns-none}
+use Rattle.rowring.specs.Steps.{freedFrom}
+use Rattle.rowring.proofs.ShutLaws.{says-on}
+
+-- the turn by another name
+pub turns-as : {a b : List (List ℕ)} {x : Reply} {t t′ : Turn} → Turns a b x t → t ≡ t′ → Turns a b x t′
+turns-as s e =
+    record { answer = s .answer ∙ ap (λ (t : Turn). t .reply) e; slot = s .slot ∙ ap (λ (t : Turn). t .slot) e; coded = s .coded; left = s .left }
+
+-- ---- probe
+
+module _ (a : List (List ℕ)) (at due n draw : ℕ) where
+  pub send-long : maxLen < n → Turns a a (reply.Refused Length) (turnBy (slotIn a) (sendOf (pathIn a) at due n draw))
+  unfolding sendOf
+  send-long h = rw (lt-ltb maxLen n h) (turns-none refl refl)
+
+  module _ (h : n ≤ maxLen) {slot : ℕ} (f : slot ≡ firstFree (pathIn a .ring)) where
+    pub send-full : maxWaiting ≤ slot → Turns a a (reply.Refused Full) (turnBy (slotIn a) (sendOf (pathIn a) at due n draw))
+    unfolding sendOf
+    send-full k = rw (le-ltb maxLen n h, sym f, le-leb maxWaiting slot k) (turns-none refl refl)
+
+    -- what it is where a place is free
+    send-free : slot < maxWaiting → {id : ℕ} → id ≡ takenOf (dropSince (pathIn a .ids) (pathIn a .ring) .«next_id») draw
+        → turn (slotIn a) (sentPath (pathIn a) (newSent id at due n)) (reply.Id id) ≡ turnBy (slotIn a) (sendOf (pathIn a) at due n draw)
+    unfolding sendOf
+    send-free k {id} e = rw (e, le-ltb maxLen n h, sym f, lt-leb maxWaiting slot k)
+
+    pub send-made : {b c d e : List (List ℕ)} {old kept after : Ids} {id t : ℕ} {before : MaybeTime} {l : Ladder}
+        → slot < maxWaiting
+        → old ≡ pathIn a .ids
+        → kept ≡ dropSince old (pathIn a .ring)
+        → id ≡ takenOf (kept .«next_id») draw
+        → after ≡ nextIds kept id
+        → before ≡ pathIn a .silence .quiet
+        → t ≡ fromOf before at
+        → l ≡ pathIn a .ladder
+        → Says a b (withRing (pathIn a) (set (pathIn a .ring) slot (newSent id at due n)))
+        → Says b c (withIds (pathIn b) after)
+        → Says c d (withQuiet (pathIn c) (time.Some t))
+        → Says d e (withLadder (pathIn d) (record { last = len.Some n; fallen = l .fallen }))
+        → Turns a e (reply.Id id) (turnBy (slotIn a) (sendOf (pathIn a) at due n draw))
+    send-made {b} {c} {d} {e} {old} {kept} {after} {id} {t} {before} {l} k o i j m q u y s₁ s₂ s₃ s₄ =
+        let i′ : kept ≡ dropSince (pathIn a .ids) (pathIn a .ring) = i ∙ ap (λ (z : Ids). dropSince z (pathIn a .ring)) o in
+        let m′ : after ≡ nextIds (dropSince (pathIn a .ids) (pathIn a .ring)) id = m ∙ ap (λ (z : Ids). nextIds z id) i′ in
+        let u′ : t ≡ fromOf (pathIn a .silence .quiet) at = u ∙ ap (λ (z : MaybeTime). fromOf z at) q in
+        let s =
+        says-on (λ (v : Liveness). withLadder v (record { last = len.Some n; fallen = l .fallen }))
+        (says-on (λ (v : Liveness). withQuiet v (time.Some t)) (says-on (λ (v : Liveness). withIds v after) s₁ s₂) s₃) s₄ in
+        let e′ : withLadder
+        (withQuiet (withIds (withRing (pathIn a) (set (pathIn a .ring) slot (newSent id at due n))) after) (time.Some t))
+        (record { last = len.Some n; fallen = l .fallen })
+        ≡ sentPath (pathIn a) (newSent id at due n) =
+        λ z. withLadder
+        (withQuiet (withIds (withRing (pathIn a) (set (pathIn a .ring) (f z) (newSent id at due n))) (m′ z)) (time.Some (u′ z)))
+        (record { last = len.Some n; fallen = y z .fallen }) in
+        turns-as (turns-by (says-as s e′) refl refl)
+        (send-free k (j ∙ ap (λ (z : Ids). takenOf (z .«next_id») draw) i′))
+
+-- ---- answer
+
+module _ (a : List (List ℕ)) (id : ℕ) {slot : ℕ} (f : slot ≡ found id (pathIn a .ring)) where
+  pub answer-in-time : {b c d : List (List ℕ)} {old after : Ids}
+      → slot < maxWaiting
+      → old ≡ pathIn a .ids
+      → after ≡ answeredIds old id
+      → Says a b (withRing (pathIn a) (takenOut maxWaiting (pathIn a .ring) slot))
+      → Says b c (withIds (pathIn b) after)
+      → Says c d (withMisses (pathIn c) 0)
+      → Turns a d reply.InTime (turnBy (slotIn a) (answerOf (pathIn a) id))
+  unfolding answerOf
+  answer-in-time {b} {c} {d} {old} {after} h o m s₁ s₂ s₃ =
+      let m′ : after ≡ answeredIds (pathIn a .ids) id = m ∙ ap (λ (z : Ids). answeredIds z id) o in
+      let s = says-on (λ (v : Liveness). withMisses v 0) (says-on (λ (v : Liveness). withIds v after) s₁ s₂) s₃ in
+      rw (sym f, lt-ltb slot maxWaiting h, sym m′) (turns-by s refl refl)
+
+  module _ (h : maxWaiting ≤ slot) {place : ℕ} (g : place ≡ found id (pathIn a .late)) where
+    pub answer-late : {b : List (List ℕ)} {free : Sent} → place < maxLate → free ≡ noSent
+        → Says a b (withLate (pathIn a) (set (pathIn a .late) place free))
+        → Turns a b reply.Late (turnBy (slotIn a) (answerOf (pathIn a) id))
+    unfolding answerOf
+    answer-late {b} {free} k e s =
+        rw (sym f, le-ltb slot maxWaiting h, sym g, lt-ltb place maxLate k, sym e) (turns-by s refl refl)
+
+    pub answer-unknown : maxLate ≤ place → Turns a a (reply.Refused Unknown) (turnBy (slotIn a) (answerOf (pathIn a) id))
+    unfolding answerOf
+    answer-unknown k = rw (sym f, le-ltb slot maxWaiting h, sym g, le-ltb place maxLate k) (turns-none refl refl)
+
+-- ---- thaw and sweep
+
+pub thaw-made : {a b : List (List ℕ)} {old after : Ids} → old ≡ pathIn a .ids → after ≡ thawedIds old → Says a b (withIds (pathIn a) after)
+    → Turns a b reply.Nothing (turn (slotIn a) (thawOf (pathIn a)) reply.Nothing)
+thaw-made {a} {b} {old} {after} o m s =
+    turns-by (says-as s (ap (λ (z : Ids). withIds (pathIn a) z) (m ∙ ap (λ (z : Ids). thawedIds z) o))) refl refl
+
+pub sweep-made : {a b c : List (List ℕ)} {ring old after : List Sent} {n : ℕ}
+    → ring ≡ pathIn a .ring
+    → old ≡ pathIn a .late
+    → n ≡ outstandingOf ring
+    → after ≡ swept old ring
+    → Says a b (withLate (pathIn a) after)
+    → Says b c (withRing (pathIn b) (freedFrom 0 (pathIn b .ring)))
+    → Turns a c (reply.Count n) (turn (slotIn a) (clearOf (pathIn a)) (reply.Count (outstandingOf (pathIn a .ring))))
+sweep-made {a} {b} {c} {ring} {old} {after} {n} r o m i s₁ s₂ =
+    let i′ : after ≡ swept (pathIn a .late) (pathIn a .ring) = i ∙ (λ z. swept (o z) (r z)) in
+    let s = says-on (λ (v : Liveness). withRing v (replicate maxWaiting noSent)) s₁ s₂ in
+    turns-by (says-as s (ap (λ (z : List Sent). withRing (withLate (pathIn a) z) (replicate maxWaiting noSent)) i′))
+    (ap reply.Count (m ∙ ap (λ (z : List Sent). outstandingOf z) r)) refl

@@ -1,0 +1,21 @@
+-- `rowprobes::events::thaw` meets its contract.
+-- Assumes nothing.
+use Rattle.rowprobes.proofs.EventLaws.{thaw-made}
+use borrow.Author.Needs.{needs}
+use Rattle.rowprobes.proofs.events.thaw.Statement.{statement}
+use Rattle.rowprobes.proofs.events.thaw.Tie as tie
+
+ids-requires : tie.Need-ids-requires
+ids-requires c κs = search needs
+
+thawed-ids-requires : tie.Need-thawed-ids-requires
+thawed-ids-requires c κs = search needs
+
+set-ids-requires : tie.Need-set-ids-requires
+set-ids-requires c κs = search needs
+
+returns : tie.Need-returns
+returns c = thaw-made (c .before .before .before .ids .ensures) (c .before .before .thawed-ids .ensures) (c .set-ids .ensures)
+
+pub thaw-spec : {M : Type 1} → statement M
+thaw-spec = tie.close (tie.spec ids-requires thawed-ids-requires set-ids-requires returns)

@@ -1,0 +1,2 @@
+-- What a poll's steps leave of a slot's rows.
+pub mod Scan

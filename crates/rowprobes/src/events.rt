@@ -1,0 +1,143 @@
+// Probe, answer, poll, thaw and sweep on a slot in rows: what `works` does to a slot by value. A refusal is known
+// before anything is stored.
+ghost use mathlib.Core.Path.{_≡_};
+ghost use Rattle.ring.specs.Ring.{outstandingOf};
+ghost use Rattle.stop.specs.Silence.{fromOf};
+ghost use Rattle.live.specs.Probe.{sendOf, answerOf, clearOf, thawOf};
+ghost use Rattle.rules.specs.Rules.{turn, turnBy, polled};
+ghost use Rattle.rules.specs.declared.types.Reply.the-variants.{Count, Nothing};
+ghost use Rattle.works.specs.Works.{wholePoll};
+ghost use Rattle.rows.specs.View.{pathIn, slotIn};
+ghost use Rattle.rows.specs.Says.{Turns};
+use crate::lapse::expire;
+use base::limits::MAX_LEN;
+use base::types::*;
+use ring::types::*;
+use rowring::search::*;
+use rowring::store::*;
+use rows::probes::*;
+use rules::types::*;
+use seek::types::Ladder;
+
+// The instant that there is, else `at`.
+fn first_of(quiet: MaybeTime, at: u64) -> u64
+    ensures { λ r. ⌜ r ≡ fromOf quiet at ⌝ }
+{
+    match quiet {
+        MaybeTime::None => at,
+        MaybeTime::Some(t) => t,
+    }
+}
+
+// Probe.
+pub fn probe(p: &mut [[u64; 4]; ROWS], e: Event) -> Reply
+    ensures { λ r. ⌜ Turns (now (p .entry)) (now (p .exit)) r
+        (turnBy (slotIn (now (p .entry))) (sendOf (pathIn (now (p .entry))) (e .now) (e .span) (e .len) (e .id))) ⌝ }
+{
+    if MAX_LEN < e.len {
+        return Reply::Refused(Refusal::Length);
+    }
+    let slot = first_free(p);
+    if RING <= slot {
+        return Reply::Refused(Refusal::Full);
+    }
+    let short = e.len as u16;
+    let old = ids(p);
+    let kept = drop_since(p, old);
+    let next = kept.next_id;
+    let id = ring::ids::taken(next, e.id);
+    let after = ring::ids::next_ids(kept, id);
+    let before = quiet(p);
+    let first = MaybeTime::Some(first_of(before, e.now));
+    let l = ladder(p);
+    let last = MaybeLen::Some(short);
+    let rung = Ladder {
+        last: last,
+        fallen: l.fallen,
+    };
+    let s = Sent {
+        at: e.now,
+        due: e.span,
+        probe_id: id,
+        len: short,
+        used: true,
+    };
+    set_sent(p, slot, s);
+    set_ids(p, after);
+    set_quiet(p, first);
+    set_ladder(p, rung);
+    Reply::Id(id)
+}
+
+// Answer, where it is not the search probe's: the ring, then the late list.
+pub fn answer_ring(p: &mut [[u64; 4]; ROWS], id: u32) -> Reply
+    ensures { λ r. ⌜ Turns (now (p .entry)) (now (p .exit)) r
+        (turnBy (slotIn (now (p .entry))) (answerOf (pathIn (now (p .entry))) id)) ⌝ }
+{
+    let slot = find(p, id);
+    if slot < RING {
+        let old = ids(p);
+        let after = ring::ids::answered_ids(old, id);
+        take_out(p, slot);
+        set_ids(p, after);
+        set_misses(p, 0);
+        return Reply::InTime;
+    }
+    let place = find_late(p, id);
+    if place < LATE {
+        let free = ring::ring::none();
+        set_late(p, place, free);
+        return Reply::Late;
+    }
+    Reply::Refused(Refusal::Unknown)
+}
+
+// Poll: `expire` until none lapses; a ring of eight is empty after eight, and the ninth finds none.
+pub fn poll(p: &mut [[u64; 4]; ROWS], at: u64, overdue: bool, cap: u64) -> Reply
+    ensures { λ r. ⌜ Turns (now (p .entry)) (now (p .exit)) r
+        (polled (slotIn (now (p .entry))) (wholePoll (pathIn (now (p .entry))) at overdue cap)) ⌝ }
+{
+    let mut n: u32 = 0;
+    while n < 9 {
+        if expire(p, at, overdue, cap) {
+            n = n + 1;
+        } else {
+            return Reply::Count(n);
+        }
+    }
+    Reply::Count(n)
+}
+
+// Thaw.
+pub fn thaw(p: &mut [[u64; 4]; ROWS]) -> Reply
+    ensures { λ r. ⌜ Turns (now (p .entry)) (now (p .exit)) r
+        (turn (slotIn (now (p .entry))) (thawOf (pathIn (now (p .entry)))) Nothing) ⌝ }
+{
+    let old = ids(p);
+    let after = ring::ids::thawed_ids(old);
+    set_ids(p, after);
+    Reply::Nothing
+}
+
+// How many probes wait: a ring has eight places.
+fn waiting(ring: [Sent; RING]) -> u32
+    ensures { λ r. ⌜ r ≡ outstandingOf ring ⌝ }
+{
+    let n = ring::ring::outstanding(ring);
+    n as u32
+}
+
+// Sweep: every waiting probe is given up, and counted.
+pub fn sweep(p: &mut [[u64; 4]; ROWS]) -> Reply
+    ensures { λ r. ⌜ Turns (now (p .entry)) (now (p .exit)) r
+        (turn (slotIn (now (p .entry))) (clearOf (pathIn (now (p .entry))))
+        (Count (outstandingOf (pathIn (now (p .entry)) .ring)))) ⌝ }
+{
+    let ring = ring_of(p);
+    let old = late_of(p);
+    let n = waiting(ring);
+    let after = ring::ring::sweep(old, ring);
+    set_lates(p, after);
+    free_from(p, 0);
+    Reply::Count(n)
+}

@@ -1,0 +1,145 @@
+// The probe of a slot's rows that lapses: the first whose due has passed and that no data defers; deferred in place.
+ghost use mathlib.Core.Path.{_≡_};
+ghost use Rattle.base.specs.Seq.{position};
+ghost use Rattle.ring.specs.Lapse.{passedAt, isPassed, deferOf};
+ghost use Rattle.live.specs.Answers.{hasLapsed};
+ghost use Rattle.live.specs.Path.{withRing};
+ghost use Rattle.live.specs.Probe.{expireOf};
+ghost use Rattle.rows.specs.View.{pathIn};
+ghost use Rattle.rows.specs.Says.{Says};
+ghost use Rattle.rowprobes.specs.Scan.{scanIn, lapsedIn};
+use base::limits::DURATION_END;
+use base::types::*;
+use ring::types::*;
+use rowring::store::*;
+use rows::measures::data_at;
+use rows::probes::*;
+use seek::types::Ladder;
+
+// Whether a due instant has passed.
+fn passed(due: u64, at: u64, overdue: bool) -> bool
+    ensures { λ r. ⌜ r ≡ passedAt at overdue due ⌝ }
+{
+    if overdue { due < at } else { due <= at }
+}
+
+// Whether the entry waits and its due has passed.
+fn is_passed(s: Sent, at: u64, overdue: bool) -> bool
+    ensures { λ r. ⌜ r ≡ isPassed at overdue s ⌝ }
+{
+    if s.used {
+        passed(s.due, at, overdue)
+    } else {
+        false
+    }
+}
+
+// The place of the first probe whose due has passed, or 8.
+fn first_passed(p: &[[u64; 4]; ROWS], at: u64, overdue: bool) -> usize
+    ensures { λ r. ⌜ r ≡ position (isPassed at overdue) (pathIn (now (p .entry)) .ring) ⌝ }
+{
+    rows(p);
+    let mut i: usize = 0;
+    while i < RING {
+        let s = sent(p, i);
+        if is_passed(s, at, overdue) {
+            return i;
+        }
+        i += 1;
+    }
+    i
+}
+
+// The due that a probe gets in place of its own where data arrived after it was sent, unless that has passed too.
+fn defer(s: Sent, heard: MaybeTime, cap: u64, at: u64, overdue: bool) -> MaybeTime
+    ensures { λ r. ⌜ r ≡ deferOf heard cap at overdue s ⌝ }
+{
+    match heard {
+        MaybeTime::None => MaybeTime::None,
+        MaybeTime::Some(t) => {
+            if s.at < t {
+                let until = base::time::deadline(s.at, cap);
+                if passed(until, at, overdue) {
+                    MaybeTime::None
+                } else {
+                    MaybeTime::Some(until)
+                }
+            } else {
+                MaybeTime::None
+            }
+        }
+    }
+}
+
+// Defers probes, and gives the place of the one that lapses, or 8.
+fn scan(p: &mut [[u64; 4]; ROWS], heard: MaybeTime, cap: u64, at: u64, overdue: bool) -> usize
+    ensures { λ r. ⌜ (r ≡ scanIn (now (p .entry)) heard cap at overdue .slot)
+        × Says (now (p .entry)) (now (p .exit))
+        (withRing (pathIn (now (p .entry))) (scanIn (now (p .entry)) heard cap at overdue .ring)) ⌝ }
+{
+    rows(p);
+    loop {
+        let i = first_passed(p, at, overdue);
+        if i >= RING {
+            return i;
+        }
+        let s = sent(p, i);
+        let wait = defer(s, heard, cap, at, overdue);
+        match wait {
+            MaybeTime::None => {
+                return i;
+            }
+            MaybeTime::Some(until) => {
+                let t = Sent {
+                    at: s.at,
+                    due: until,
+                    probe_id: s.probe_id,
+                    len: s.len,
+                    used: s.used,
+                };
+                set_sent(p, i, t);
+            }
+        }
+    }
+}
+
+// The probe at a place of the ring lapses.
+fn lapse(p: &mut [[u64; 4]; ROWS], slot: usize)
+    ensures { λ r. ⌜ Says (now (p .entry)) (now (p .exit)) (lapsedIn (now (p .entry)) slot) ⌝ }
+{
+    let s = sent(p, slot);
+    let m = ids(p);
+    let miss = ring::ids::counted(m, s.probe_id);
+    let fall = ring::ids::padded(m, s);
+    let l = ladder(p);
+    let fallen = fall | l.fallen;
+    let last = l.last;
+    let rung = Ladder {
+        last: last,
+        fallen: fallen,
+    };
+    let before = misses(p);
+    let after = ring::ids::missed(before, miss);
+    take_out(p, slot);
+    remember(p, s);
+    set_ladder(p, rung);
+    set_misses(p, after);
+}
+
+// Takes the probe that lapses out of the ring into the late list, deferring others on the way to it; says whether there
+// was one.
+pub fn expire(p: &mut [[u64; 4]; ROWS], at: u64, overdue: bool, cap: u64) -> bool
+    ensures { λ r. ⌜ (r ≡ hasLapsed (expireOf (pathIn (now (p .entry))) at overdue cap .answer))
+        × Says (now (p .entry)) (now (p .exit)) (expireOf (pathIn (now (p .entry))) at overdue cap .path) ⌝ }
+{
+    if DURATION_END <= cap {
+        return false;
+    }
+    let heard = data_at(p);
+    let slot = scan(p, heard, cap, at, overdue);
+    if RING <= slot {
+        return false;
+    }
+    lapse(p, slot);
+    true
+}

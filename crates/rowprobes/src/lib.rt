@@ -1,0 +1,3 @@
+// The events on probes, on a slot in lent rows, in place.
+pub mod events;
+pub mod lapse;

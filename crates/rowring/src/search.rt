@@ -1,0 +1,121 @@
+// Searches in the ring and the late list of a slot's rows.
+ghost use mathlib.Core.Path.{_≡_};
+ghost use Rattle.ring.specs.Ring.{firstFree, fineOf, allCount, dropSince, isProbe, found};
+ghost use Rattle.rows.specs.View.{pathIn};
+ghost use Rattle.rowring.specs.Steps.{isDropped};
+use base::types::*;
+use ring::types::*;
+use rows::probes::*;
+
+// The place of the first entry of the ring that is free, or 8.
+pub fn first_free(p: &[[u64; 4]; ROWS]) -> usize
+    ensures { λ r. ⌜ r ≡ firstFree (pathIn (now (p .entry)) .ring) ⌝ }
+{
+    rows(p);
+    let mut i: usize = 0;
+    while i < RING {
+        let s = sent(p, i);
+        if !s.used {
+            return i;
+        }
+        i += 1;
+    }
+    i
+}
+
+// Free, or its lapse counts.
+fn fine(s: Sent, since: MaybeId) -> bool
+    ensures { λ r. ⌜ r ≡ fineOf since s ⌝ }
+{
+    if s.used {
+        ring::ids::counts(since, s.probe_id)
+    } else {
+        true
+    }
+}
+
+// Whether every waiting probe counts.
+fn all_count(p: &[[u64; 4]; ROWS], since: MaybeId) -> bool
+    ensures { λ r. ⌜ r ≡ allCount since (pathIn (now (p .entry)) .ring) ⌝ }
+{
+    rows(p);
+    let mut i: usize = 0;
+    while i < RING {
+        let s = sent(p, i);
+        if !fine(s, since) {
+            return false;
+        }
+        i += 1;
+    }
+    true
+}
+
+// Whether there is a since to be dropped: there is one, and every waiting probe counts.
+fn is_dropped(p: &[[u64; 4]; ROWS], since: MaybeId) -> bool
+    ensures { λ r. ⌜ r ≡ isDropped since (pathIn (now (p .entry)) .ring) ⌝ }
+{
+    match since {
+        MaybeId::None => false,
+        MaybeId::Some(id) => all_count(p, since),
+    }
+}
+
+// The identifiers before a send: since is dropped if every waiting probe counts.
+pub fn drop_since(p: &[[u64; 4]; ROWS], m: Ids) -> Ids
+    ensures { λ r. ⌜ r ≡ dropSince m (pathIn (now (p .entry)) .ring) ⌝ }
+{
+    let since = m.since;
+    if is_dropped(p, since) {
+        let next_id = m.next_id;
+        let answered = m.answered;
+        let epoch = m.epoch;
+        let none = MaybeId::None;
+        Ids {
+            next_id: next_id,
+            answered: answered,
+            epoch: epoch,
+            since: none,
+        }
+    } else {
+        m
+    }
+}
+
+// Whether the entry is the waiting probe id.
+fn is_probe(s: Sent, id: u32) -> bool
+    ensures { λ r. ⌜ r ≡ isProbe id s ⌝ }
+{
+    if s.used { s.probe_id == id } else { false }
+}
+
+// The place of the first waiting probe with the identifier, or 8.
+pub fn find(p: &[[u64; 4]; ROWS], id: u32) -> usize
+    ensures { λ r. ⌜ r ≡ found id (pathIn (now (p .entry)) .ring) ⌝ }
+{
+    rows(p);
+    let mut i: usize = 0;
+    while i < RING {
+        let s = sent(p, i);
+        if is_probe(s, id) {
+            return i;
+        }
+        i += 1;
+    }
+    i
+}
+
+// The place of the first late probe with the identifier, or 4.
+pub fn find_late(p: &[[u64; 4]; ROWS], id: u32) -> usize
+    ensures { λ r. ⌜ r ≡ found id (pathIn (now (p .entry)) .late) ⌝ }
+{
+    rows(p);
+    let mut i: usize = 0;
+    while i < LATE {
+        let s = late(p, i);
+        if is_probe(s, id) {
+            return i;
+        }
+        i += 1;
+    }
+    i
+}

@@ -1,0 +1,114 @@
+// The ring and the late list of a slot's rows, stored in place: the ring closed up, one more in the late list. A store
+// leaves all else.
+ghost use mathlib.Core.Path.{_≡_};
+ghost use lib.ListN.{length};
+ghost use Rattle.ring.specs.Ring.{maxWaiting, waiting, takenOut, remembered};
+ghost use Rattle.live.specs.Path.{withRing, withLate};
+ghost use Rattle.rows.specs.View.{pathIn};
+ghost use Rattle.rows.specs.Says.{Says};
+ghost use Rattle.rowring.specs.Steps.{pressed, freedFrom};
+use ring::types::*;
+use rows::probes::*;
+
+// Moves the waiting probes to the front of the ring, in their order, and counts them.
+fn press(p: &mut [[u64; 4]; ROWS]) -> usize
+    ensures { λ r. ⌜ (r ≡ length (waiting (pathIn (now (p .entry)) .ring)))
+        × Says (now (p .entry)) (now (p .exit))
+        (withRing (pathIn (now (p .entry))) (pressed (pathIn (now (p .entry)) .ring))) ⌝ }
+{
+    rows(p);
+    let mut w: usize = 0;
+    let mut r: usize = 0;
+    while r < RING {
+        let s = sent(p, r);
+        r += 1;
+        if s.used {
+            set_sent(p, w, s);
+            w += 1;
+        }
+    }
+    w
+}
+
+// Frees the ring's places from one on.
+pub fn free_from(p: &mut [[u64; 4]; ROWS], from: usize)
+    ensures { λ r. ⌜ Says (now (p .entry)) (now (p .exit))
+        (withRing (pathIn (now (p .entry))) (freedFrom from (pathIn (now (p .entry)) .ring))) ⌝ }
+{
+    rows(p);
+    let free = ring::ring::none();
+    let mut k = from;
+    while k < RING {
+        set_sent(p, k, free);
+        k += 1;
+    }
+}
+
+// Takes the probe at a place out of the ring, which closes up in its order.
+pub fn take_out(p: &mut [[u64; 4]; ROWS], slot: usize)
+    ensures { λ r. ⌜ Says (now (p .entry)) (now (p .exit))
+        (withRing (pathIn (now (p .entry))) (takenOut maxWaiting (pathIn (now (p .entry)) .ring) slot)) ⌝ }
+{
+    let free = ring::ring::none();
+    set_sent(p, slot, free);
+    let w = press(p);
+    free_from(p, w);
+}
+
+// One more at the end of the late list: everything shifts one place.
+pub fn remember(p: &mut [[u64; 4]; ROWS], s: Sent)
+    ensures { λ r. ⌜ Says (now (p .entry)) (now (p .exit))
+        (withLate (pathIn (now (p .entry))) (remembered (pathIn (now (p .entry)) .late) s)) ⌝ }
+{
+    rows(p);
+    let b = late(p, 1);
+    let c = late(p, 2);
+    let d = late(p, 3);
+    set_late(p, 0, b);
+    set_late(p, 1, c);
+    set_late(p, 2, d);
+    set_late(p, 3, s);
+}
+
+// The ring.
+pub fn ring_of(p: &[[u64; 4]; ROWS]) -> [Sent; RING]
+    ensures { λ r. ⌜ r ≡ pathIn (now (p .entry)) .ring ⌝ }
+{
+    rows(p);
+    let a = sent(p, 0);
+    let b = sent(p, 1);
+    let c = sent(p, 2);
+    let d = sent(p, 3);
+    let e = sent(p, 4);
+    let f = sent(p, 5);
+    let g = sent(p, 6);
+    let h = sent(p, 7);
+    [a, b, c, d, e, f, g, h]
+}
+
+// The late list.
+pub fn late_of(p: &[[u64; 4]; ROWS]) -> [Sent; LATE]
+    ensures { λ r. ⌜ r ≡ pathIn (now (p .entry)) .late ⌝ }
+{
+    rows(p);
+    let a = late(p, 0);
+    let b = late(p, 1);
+    let c = late(p, 2);
+    let d = late(p, 3);
+    [a, b, c, d]
+}
+
+// Stores the late list.
+pub fn set_lates(p: &mut [[u64; 4]; ROWS], l: [Sent; LATE])
+    ensures { λ r. ⌜ Says (now (p .entry)) (now (p .exit)) (withLate (pathIn (now (p .entry))) l) ⌝ }
+{
+    rows(p);
+    let a = l[0];
+    let b = l[1];
+    let c = l[2];
+    let d = l[3];
+    set_late(p, 0, a);
+    set_late(p, 1, b);
+    set_late(p, 2, c);
+    set_late(p, 3, d);
+}
