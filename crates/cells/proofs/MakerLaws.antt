@@ -19,16 +19,20 @@ use Rattle.rtt.specs.declared.types.Sample.{Sample}
 use Rattle.rtt.specs.declared.types.Span.{Span}
 use Rattle.seek.specs.declared.types.Ladder.{Ladder}
 use Rattle.seek.specs.declared.types.Sizes.{Sizes}
+use Rattle.stop.specs.declared.types.MaybeStop.{MaybeStop}
+use Rattle.stop.specs.declared.types.MaybeStop.the-variants as stop
+use Rattle.stop.specs.declared.types.Stop.{Stop}
 use Rattle.live.specs.declared.types.Traffic.{Traffic}
 use Rattle.image.specs.Image.{timeTag, timeOrZero, etxBits}
 use Rattle.rules.specs.declared.types.Label.{Label}
 use Rattle.cells.specs.Cells.{idIn, lenIn, sentIn, idsIn, firstTime, sizesIn, ladderIn, trafficIn, missesIn}
-use Rattle.cells.specs.Cells.{etxIn, sampleIn, spanIn, usedIn, labelIn}
+use Rattle.cells.specs.Cells.{etxIn, sampleIn, spanIn, usedIn, labelIn, stopIn}
+use Rattle.cells.specs.Code.{stopRow, untilRow}
 use Rattle.cells.specs.Code.{idWord, lenWord, sentRow, idsRow, timeRow, seekRow, provenRow, ladderRow}
 use Rattle.cells.specs.Code.{arrivalsRow, countersRow, missesRow, etxRow, sampleRow, spanRow, flagBits, markRow}
 use Rattle.cells.proofs.RowLaws.{id-some, len-some, sent-says, ids-same, time-says, sizes-same, ladder-same}
 use Rattle.cells.proofs.RowLaws.{traffic-says, misses-says, etx-says, sample-says, span-says, used-says}
-use Rattle.cells.proofs.RowLaws.{label-says}
+use Rattle.cells.proofs.RowLaws.{label-says, stop-says}
 
 -- what equals a number below a bound is below it
 under : {x y n : ℕ} → (x ≡ y) × (x < n) → y < n
@@ -152,3 +156,23 @@ unfolding markRow
 mark-made on l {u} {n} {x} e p f =
     let r : u ∷ n ∷ x ∷ 0 ∷ [] ≡ markRow on l = λ k. e k ∷ p .0 k ∷ f k ∷ 0 ∷ [] in
     (r, ap usedIn r ∙ used-says on l, ap labelIn r ∙ label-says on l (under p))
+
+-- the rows of no stop
+pub stop-none : {m : MaybeStop} → m ≡ stop.None
+    → (0 ∷ 0 ∷ 0 ∷ 0 ∷ [] ≡ stopRow m) × (0 ∷ 0 ∷ 0 ∷ 0 ∷ [] ≡ untilRow m)
+    × (stopIn (0 ∷ 0 ∷ 0 ∷ 0 ∷ []) (0 ∷ 0 ∷ 0 ∷ 0 ∷ []) ≡ m)
+unfolding stopRow untilRow stopIn
+stop-none e = (ap stopRow (sym e), ap untilRow (sym e), sym e)
+
+-- the rows of a stop
+pub stop-made : {m : MaybeStop} {s : Stop} {k t v : ℕ} → m ≡ stop.Some s → k ≡ 1 + flagOf (s .owed)
+    → t ≡ timeTag (s .until) → v ≡ timeOrZero (s .until)
+    → (k ∷ s .free ∷ s .gap ∷ s .used ∷ [] ≡ stopRow m) × (t ∷ v ∷ 0 ∷ 0 ∷ [] ≡ untilRow m)
+    × (stopIn (k ∷ s .free ∷ s .gap ∷ s .used ∷ []) (t ∷ v ∷ 0 ∷ 0 ∷ []) ≡ m)
+unfolding stopRow untilRow
+stop-made {m} {s} {k} {t} {v} e f g h =
+    let a : k ∷ s .free ∷ s .gap ∷ s .used ∷ [] ≡ stopRow m =
+        (λ j. f j ∷ s .free ∷ s .gap ∷ s .used ∷ []) ∙ ap stopRow (sym e) in
+    let b : t ∷ v ∷ 0 ∷ 0 ∷ [] ≡ untilRow m =
+        (λ j. g j ∷ h j ∷ 0 ∷ 0 ∷ []) ∙ ap untilRow (sym e) in
+    (a, b, (λ j. stopIn (a j) (b j)) ∙ stop-says m)

@@ -1,7 +1,10 @@
 // Rows of what a path measures: instants, samples, spans, the ETX, the sizes, the traffic. A part of two rows has them
 // in a struct.
 ghost use mathlib.Core.Path.{_≡_};
-ghost use Rattle.cells.specs.Cells.{word, timeIn, firstTime, sampleIn, spanIn, etxIn, sizesIn, trafficIn};
+ghost use Prim.Native.Nat.{_+_};
+ghost use Rattle.base.specs.Seq.{flagOf};
+ghost use Rattle.cells.specs.Cells.{word, timeIn, firstTime, sampleIn, spanIn, etxIn, sizesIn, trafficIn, stopIn};
+ghost use Rattle.cells.specs.Code.{stopRow, untilRow};
 ghost use Rattle.cells.specs.Code.{timeRow, sampleRow, spanRow, etxRow, seekRow, provenRow};
 ghost use Rattle.cells.specs.Code.{arrivalsRow, countersRow};
 use crate::words::*;
@@ -10,6 +13,7 @@ use image::words::*;
 use live::types::Traffic;
 use rtt::types::*;
 use seek::types::*;
+use stop::types::*;
 
 // Two rows.
 pub struct Two {
@@ -184,4 +188,32 @@ pub fn traffic_rows(s: Traffic) -> Two
     let a = [ha, hb, da, db];
     let b = [frames, bytes, 0, 0];
     Two { a: a, b: b }
+}
+
+// The mark of a stop, 2 if a slot is owed.
+fn stop_mark(owed: bool) -> u64
+    ensures { λ r. ⌜ r ≡ 1 + flagOf owed ⌝ }
+{
+    if owed { 2 } else { 1 }
+}
+
+// The rows that say the stop, all 0 with none.
+pub fn stop_rows(m: MaybeStop) -> Two
+    ensures { λ r. ⌜ (r .a ≡ stopRow m) × (r .b ≡ untilRow m) × (stopIn (r .a) (r .b) ≡ m) ⌝ }
+{
+    match m {
+        MaybeStop::None => {
+            let zeros = [0, 0, 0, 0];
+            Two { a: zeros, b: zeros }
+        }
+        MaybeStop::Some(s) => {
+            let until = s.until;
+            let mark = stop_mark(s.owed);
+            let tag = time_tag(until);
+            let at = time_value(until);
+            let a = [mark, s.free, s.gap, s.used];
+            let b = [tag, at, 0, 0];
+            Two { a: a, b: b }
+        }
+    }
 }

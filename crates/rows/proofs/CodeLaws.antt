@@ -15,13 +15,14 @@ use Rattle.rtt.specs.declared.types.Sample.{Sample}
 use Rattle.rtt.specs.declared.types.Span.{Span}
 use Rattle.seek.specs.declared.types.Ladder.{Ladder}
 use Rattle.seek.specs.declared.types.Sizes.{Sizes}
+use Rattle.stop.specs.declared.types.MaybeStop.{MaybeStop}
 use Rattle.live.specs.Path.{withRing, withLate, withIds, withSizes, withTraffic, withLadder, withMisses, withEtx}
 use Rattle.live.specs.declared.types.Liveness.{Liveness}
 use Rattle.live.specs.declared.types.Traffic.{Traffic}
 use Rattle.rules.specs.declared.types.Slot.{Slot}
 use Rattle.cells.specs.Code.{sentRow, idsRow, timeRow, seekRow, provenRow, ladderRow, arrivalsRow, countersRow}
-use Rattle.cells.specs.Code.{missesRow, etxRow, sampleRow, spanRow, markRow}
-use Rattle.rows.specs.Parts.{withQuiet, withSamples, withSpans, withTrip}
+use Rattle.cells.specs.Code.{stopRow, untilRow, missesRow, etxRow, sampleRow, spanRow, markRow}
+use Rattle.rows.specs.Parts.{withQuiet, withStop, withSamples, withSpans, withTrip}
 use Rattle.rows.specs.Encode.{middleRows, slotRows}
 use Rattle.rows.proofs.BlockLaws.{map-set}
 
@@ -161,3 +162,10 @@ module _ (s : Slot) (n : Long (s .path)) where
   code-traffic x =
       ap (λ (z : List (List ℕ)). set z 20 (countersRow x)) (at-middle (middleRows (s .path) ++ tail) 7 (arrivalsRow x))
       ∙ at-middle (set (middleRows (s .path) ++ tail) 7 (arrivalsRow x)) 8 (countersRow x)
+
+  pub code-stop : (x : MaybeStop)
+      → set (set (slotRows s) 14 (stopRow x)) 15 (untilRow x) ≡ slotRows (onPath s (withStop (s .path) x))
+  unfolding slotRows
+  code-stop x =
+      ap (λ (z : List (List ℕ)). set z 15 (untilRow x)) (at-middle (middleRows (s .path) ++ tail) 2 (stopRow x))
+      ∙ at-middle (set (middleRows (s .path) ++ tail) 2 (stopRow x)) 3 (untilRow x)

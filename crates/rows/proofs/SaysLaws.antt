@@ -18,6 +18,7 @@ use Rattle.rtt.specs.declared.types.Sample.{Sample}
 use Rattle.rtt.specs.declared.types.Span.{Span}
 use Rattle.seek.specs.declared.types.Ladder.{Ladder}
 use Rattle.seek.specs.declared.types.Sizes.{Sizes}
+use Rattle.stop.specs.declared.types.MaybeStop.{MaybeStop}
 use Rattle.live.specs.Path.{withRing, withLate, withIds, withSizes, withTraffic, withLadder, withMisses, withEtx}
 use Rattle.live.specs.declared.types.Liveness.{Liveness}
 use Rattle.live.specs.declared.types.Traffic.{Traffic}
@@ -25,10 +26,10 @@ use Rattle.rules.specs.declared.types.Reply.{Reply}
 use Rattle.rules.specs.declared.types.Turn.{Turn}
 use Rattle.rules.specs.Rules.{turn}
 use Rattle.cells.specs.Cells.{sentIn, idsIn, firstTime, sizesIn, ladderIn, trafficIn, missesIn, etxIn, sampleIn, spanIn}
-use Rattle.cells.specs.Cells.{labelIn, usedIn}
+use Rattle.cells.specs.Cells.{labelIn, usedIn, stopIn}
 use Rattle.cells.specs.Code.{sentRow, idsRow, timeRow, seekRow, provenRow, ladderRow, arrivalsRow, countersRow}
-use Rattle.cells.specs.Code.{missesRow, etxRow, sampleRow, spanRow}
-use Rattle.rows.specs.Parts.{withQuiet, withSamples, withSpans, withTrip}
+use Rattle.cells.specs.Code.{stopRow, untilRow, missesRow, etxRow, sampleRow, spanRow}
+use Rattle.rows.specs.Parts.{withQuiet, withStop, withSamples, withSpans, withTrip}
 use Rattle.rows.specs.View.{row, pathIn, slotIn}
 use Rattle.rows.specs.Encode.{slotRows, IsCoded}
 use Rattle.rows.specs.Says.{Says, Turns, isRefused}
@@ -181,6 +182,14 @@ module _ (p : List (List ℕ)) (n : length p ≡ 65) (a b : List ℕ) where
       (row-other (set p 19 a) 20 b 64 refl ∙ row-other p 19 a 64 refl)
       (λ c. sym (code.code-traffic (slotIn p) (long-rows p n) s)
       ∙ (λ j. set (set (c j) 19 (sym (e .0) j)) 20 (sym (e .1) j)))
+
+  pub says-stop : {m : MaybeStop} → (a ≡ stopRow m) × (b ≡ untilRow m) × (stopIn a b ≡ m)
+      → Says p (set (set p 14 a) 15 b) (withStop (pathIn p) m)
+  says-stop {m} e =
+      made p (set (set p 14 a) 15 b) (withStop (pathIn p) m) (view.view-stop p n a b (e .2))
+      (row-other (set p 14 a) 15 b 64 refl ∙ row-other p 14 a 64 refl)
+      (λ c. sym (code.code-stop (slotIn p) (long-rows p n) m)
+      ∙ (λ j. set (set (c j) 14 (sym (e .0) j)) 15 (sym (e .1) j)))
 
 -- ---- places that are not there
 

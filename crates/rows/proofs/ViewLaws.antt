@@ -21,10 +21,11 @@ use Rattle.rtt.specs.Spans.{noSpan}
 use Rattle.rtt.specs.declared.types.Sample.{Sample}
 use Rattle.rtt.specs.declared.types.Span.{Span}
 use Rattle.seek.specs.declared.types.Sizes.{Sizes}
+use Rattle.stop.specs.declared.types.MaybeStop.{MaybeStop}
 use Rattle.live.specs.declared.types.Traffic.{Traffic}
 use Rattle.live.specs.Path.{withRing, withLate, withIds, withSizes, withTraffic, withLadder, withMisses, withEtx}
-use Rattle.cells.specs.Cells.{sentIn, idsIn, firstTime, ladderIn, missesIn, sampleIn, spanIn, sizesIn, trafficIn, etxIn}
-use Rattle.rows.specs.Parts.{withQuiet, withSamples, withSpans, withTrip}
+use Rattle.cells.specs.Cells.{sentIn, idsIn, firstTime, ladderIn, missesIn, sampleIn, spanIn, sizesIn, trafficIn, etxIn, stopIn}
+use Rattle.rows.specs.Parts.{withQuiet, withStop, withSamples, withSpans, withTrip}
 use Rattle.rows.specs.View.{row, block, ringIn, lateIn, samplesIn, spansIn, pathIn}
 use Rattle.rows.proofs.BlockLaws.{block-at, block-before, block-after, block-in, row-other, row-same}
 
@@ -184,3 +185,7 @@ module _ (p : List (List ℕ)) (n : length p ≡ 65) (a b : List ℕ) where
   pub view-traffic : {s : Traffic} → trafficIn a b ≡ s → pathIn (set (set p 19 a) 20 b) ≡ withTraffic (pathIn p) s
   unfolding pathIn
   view-traffic q = simp (ring-out, late-high, samples-low, spans-low, row-other, row-same p 19 a (omega arith), row-same (set p 19 a) 20 b (omega (arith, length-set p 19 a)), q)
+
+  pub view-stop : {m : MaybeStop} → stopIn a b ≡ m → pathIn (set (set p 14 a) 15 b) ≡ withStop (pathIn p) m
+  unfolding pathIn
+  view-stop q = simp (ring-out, late-high, samples-low, spans-low, row-other, row-same p 14 a (omega arith), row-same (set p 14 a) 15 b (omega (arith, length-set p 14 a)), q)

@@ -3,12 +3,17 @@ use mathlib.Core.List.{List}
 use Rattle.base.specs.declared.types.MaybeTime.{MaybeTime}
 use Rattle.rtt.specs.declared.types.Sample.{Sample}
 use Rattle.rtt.specs.declared.types.Span.{Span}
+use Rattle.stop.specs.declared.types.MaybeStop.{MaybeStop}
 use Rattle.live.specs.Path.{withSilence, withRtts}
 use Rattle.live.specs.declared.types.Liveness.{Liveness}
 
 -- another silence clock
 abbrev pub withQuiet : Liveness → MaybeTime → Liveness
 withQuiet p q = withSilence p (record { stop = p .silence .stop; quiet = q })
+
+-- another stop
+abbrev pub withStop : Liveness → MaybeStop → Liveness
+withStop p m = withSilence p (record { stop = m; quiet = p .silence .quiet })
 
 -- other samples
 abbrev pub withSamples : Liveness → List Sample → Liveness

@@ -5,7 +5,7 @@ ghost use lib.ListN.{set, getD};
 ghost use Rattle.rtt.specs.Samples.{noSample};
 ghost use Rattle.rtt.specs.Spans.{noSpan};
 ghost use Rattle.live.specs.Path.{withSizes, withTraffic, withEtx};
-ghost use Rattle.rows.specs.Parts.{withSamples, withSpans, withTrip};
+ghost use Rattle.rows.specs.Parts.{withStop, withSamples, withSpans, withTrip};
 ghost use Rattle.rows.specs.View.{pathIn};
 ghost use Rattle.rows.specs.Says.{Says};
 use base::types::MaybeTime;
@@ -14,6 +14,7 @@ use crate::probes::*;
 use live::types::Traffic;
 use rtt::types::*;
 use seek::types::Sizes;
+use stop::types::MaybeStop;
 
 // The sizes with the search.
 pub fn sizes(p: &[[u64; 4]; ROWS]) -> Sizes
@@ -34,6 +35,18 @@ pub fn set_sizes(p: &mut [[u64; 4]; ROWS], s: Sizes)
     let b = t.b;
     p[16] = a;
     p[17] = b;
+}
+
+// Stores the stop.
+pub fn set_stop(p: &mut [[u64; 4]; ROWS], m: MaybeStop)
+    ensures { λ r. ⌜ Says (now (p .entry)) (now (p .exit)) (withStop (pathIn (now (p .entry))) m) ⌝ }
+{
+    rows(p);
+    let t = stop_rows(m);
+    let a = t.a;
+    let b = t.b;
+    p[14] = a;
+    p[15] = b;
 }
 
 // The frames received.

@@ -1,0 +1,1 @@
+-- The encoder's words say what was encoded.
