@@ -19,8 +19,8 @@ fn lesser(a: usize, b: usize) -> usize
 // A call on the bytes held. What it wrote stands in `out`, and what it read in the bytes held.
 pub fn call(session: Session, buf: &[u8], p: usize, n: usize, out: &mut [u8]) -> Run
     ensures { λ r. ⌜ (r ≡ ranOf (linesIn (now (out .entry))) session (partOf p n (now (buf .entry))) .run)
-        × (now (out .exit)
-        ≡ over (ranOf (linesIn (now (out .entry))) session (partOf p n (now (buf .entry))) .text) (now (out .entry))) ⌝ }
+        × (now (out .exit) ≡ over
+        (ranOf (linesIn (now (out .entry))) session (partOf p n (now (buf .entry))) .text) (now (out .entry))) ⌝ }
     ensures { λ r. ⌜ (r .wrote ≤ length (now (out .exit))) × (r .place ≤ n - p) ⌝ }
 {
     let to = lesser(n, buf.len());
