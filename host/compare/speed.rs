@@ -1,20 +1,24 @@
 //! `speed OURS RUST FOLDER`: the program `pathlog` and the Rust's on the same files: events a second,
-//! how time grows with their number, peak memory.
+//! how time grows with their number, peak memory; then what an event costs that copies the whole record.
 
 #[allow(dead_code)]
 mod aims;
 #[allow(dead_code)]
 mod calls;
 #[allow(dead_code)]
+mod entries;
+#[allow(dead_code)]
 mod events;
 #[allow(dead_code)]
 mod filed;
+mod ours;
 mod papers;
 mod random;
 
 use filed::{Filed, put_record, turn};
 use oracle::proto::path::record::{Record, SLOTS};
 use oracle::proto::path::script::path_bytes;
+use ours::Ours;
 use std::fs::File;
 use std::io::{BufWriter, Result, Write};
 use std::path::Path;
@@ -37,6 +41,7 @@ fn main() {
         "| Events | bytes | pathlog, s | events a second | the Rust's, s | events a second | ratio | pathlog, peak KB | the Rust's |"
     );
     println!("|---|---|---|---|---|---|---|---|---|");
+    let mut copies = None;
     for events in SIZES {
         let file = Path::new(folder).join(format!("{events}.events"));
         let bytes = write(&file, events).expect("a file");
@@ -61,6 +66,7 @@ fn main() {
             peaks[0],
             peaks[1]
         );
+        copies.get_or_insert_with(|| (by_record(&file, events), ours / events as f64 * 1e9));
         std::fs::remove_file(file).expect("the file goes");
     }
     println!();
@@ -70,6 +76,25 @@ fn main() {
         size_of::<Record>(),
         path_bytes()
     );
+    let (record, slot) = copies.expect("a first file");
+    println!(
+        "On the first file `hess_events`, with the whole record by value in and out of each event: {record:.0} ns \
+         an event, in each of its two passes; `pathlog`, with one slot: {slot:.0}."
+    );
+}
+
+/// Nanoseconds an event of one pass of `hess_events`, which goes over the file twice.
+fn by_record(file: &Path, events: usize) -> f64 {
+    let file = std::fs::read(file).expect("the file");
+    let mut ours = Ours::default();
+    let runs = (0..RUNS).map(|_| {
+        let start = Instant::now();
+        let ran = ours.run(&file, 16 * events + 52 * SLOTS);
+        let (reply, _) = ran.expect("bytes past the count stay");
+        assert_eq!(reply.number, 0, "hess_events refuses the file");
+        start.elapsed().as_secs_f64()
+    });
+    median(runs.collect()) / (2 * events) as f64 * 1e9
 }
 
 /// Write a file of so many events, in turns; its bytes.

@@ -6,8 +6,6 @@ ghost use Rattle.lines.specs.Text.{written};
 ghost use Rattle.octets.specs.Octets.{over};
 ghost use Rattle.pathrun.specs.Sessions.{partOf, linesIn, ranOf, lastOf};
 ghost use Rattle.feed.specs.Feed.{isOver};
-use base::types::Refusal;
-use live::types::Liveness;
 use pathrun::types::*;
 use rules::types::*;
 
@@ -20,7 +18,9 @@ fn lesser(a: usize, b: usize) -> usize
 
 // A call on the bytes held. What it wrote stands in `out`, and what it read in the bytes held.
 pub fn call(session: Session, buf: &[u8], p: usize, n: usize, out: &mut [u8]) -> Run
-    ensures { λ r. ⌜ (r ≡ ranOf (linesIn (now (out .entry))) session (partOf p n (now (buf .entry))) .run) × (now (out .exit) ≡ over (ranOf (linesIn (now (out .entry))) session (partOf p n (now (buf .entry))) .text) (now (out .entry))) ⌝ }
+    ensures { λ r. ⌜ (r ≡ ranOf (linesIn (now (out .entry))) session (partOf p n (now (buf .entry))) .run)
+        × (now (out .exit) ≡ over
+        (ranOf (linesIn (now (out .entry))) session (partOf p n (now (buf .entry))) .text) (now (out .entry))) ⌝ }
     ensures { λ r. ⌜ (r .wrote ≤ length (now (out .exit))) × (r .place ≤ n - p) ⌝ }
 {
     let to = lesser(n, buf.len());
@@ -30,7 +30,8 @@ pub fn call(session: Session, buf: &[u8], p: usize, n: usize, out: &mut [u8]) ->
 
 // The end of the input, with these bytes held; gives the bytes of the last line, which stand in `out`.
 pub fn finish(session: Session, buf: &[u8], p: usize, n: usize, out: &mut [u8]) -> usize
-    ensures { λ r. ⌜ (r ≡ written (lastOf session (partOf p n (now (buf .entry)))) (now (out .entry))) × (now (out .exit) ≡ over (lastOf session (partOf p n (now (buf .entry)))) (now (out .entry))) ⌝ }
+    ensures { λ r. ⌜ (r ≡ written (lastOf session (partOf p n (now (buf .entry)))) (now (out .entry)))
+        × (now (out .exit) ≡ over (lastOf session (partOf p n (now (buf .entry)))) (now (out .entry))) ⌝ }
     ensures { λ r. ⌜ r ≤ length (now (out .exit)) ⌝ }
 {
     let to = lesser(n, buf.len());
@@ -40,7 +41,8 @@ pub fn finish(session: Session, buf: &[u8], p: usize, n: usize, out: &mut [u8]) 
 
 // Moves the bytes held to the front; gives how many there are, which is no more than `buf` has.
 pub fn shift(buf: &mut [u8], p: usize, n: usize) -> usize
-    ensures { λ r. ⌜ (r ≡ length (partOf p n (now (buf .entry)))) × (now (buf .exit) ≡ over (partOf p n (now (buf .entry))) (now (buf .entry))) ⌝ }
+    ensures { λ r. ⌜ (r ≡ length (partOf p n (now (buf .entry))))
+        × (now (buf .exit) ≡ over (partOf p n (now (buf .entry))) (now (buf .entry))) ⌝ }
     ensures { λ r. ⌜ r ≤ length (now (buf .exit)) ⌝ }
 {
     pathrun::held::shift(buf, p, n)

@@ -10,7 +10,6 @@
 use libc::STDERR_FILENO;
 use libc::STDIN_FILENO;
 use libc::STDOUT_FILENO;
-use live::types::Liveness;
 use pathrun::types::*;
 use rules::types::*;
 

@@ -5,9 +5,7 @@ ghost use Rattle.octets.specs.Octets.{over};
 ghost use Rattle.pathrun.specs.Sessions.{begun, stayed, linesIn, ranOf, lastOf};
 use crate::run::run;
 use crate::types::*;
-use base::types::Refusal;
 use eventfile::types::Parse;
-use live::types::Liveness;
 use rules::types::*;
 use turns::reply::number_of;
 

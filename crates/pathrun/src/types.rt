@@ -1,6 +1,5 @@
 // What a session is, and what its calls answer.
 use base::types::Refusal;
-use live::types::Liveness;
 use rules::types::*;
 
 // What a session awaits: the settings, a record of the file, or nothing more.

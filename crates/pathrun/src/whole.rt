@@ -8,7 +8,6 @@ use crate::session::finish;
 use crate::session::step;
 use crate::types::*;
 use base::types::Refusal;
-use live::types::Liveness;
 use rules::types::*;
 
 // Writes the lines of a file to the front of `out`, or nothing where `out` has no room for a line of 84 bytes for each

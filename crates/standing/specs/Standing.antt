@@ -105,7 +105,7 @@ standingBytes s = flat bytesIn (partsOf s)
 abbrev pub fit : List ℕ → ℕ → Written
 fit bytes lent = cond (leb (length bytes) lent) (written.Count (length bytes)) (written.Refused refusal.Lent)
 
--- "bytes past it are unchanged", and all of them where it is refused: the lent bytes l are then `over (bytesOf s) l`
+-- "bytes past it are unchanged", and all of them on a refusal: the lent bytes l are then `over (standingBytes s) l`
 unfoldable pub writtenOf : Standing → ℕ → Written
 writtenOf s lent = fit (standingBytes s) lent
 
