@@ -1,1 +1,2 @@
--- The encoder's words say what was encoded.
+-- A slot stored in rows by the encoder.
+pub mod Probed

@@ -1,0 +1,71 @@
+-- Parts stored one after the other, and a slot stored whole.
+-- Assumes nothing.
+use Prim.Native.Nat.{ℕ}
+use mathlib.Core.Path.{_≡_, refl, ap, sym, _∙_}
+use mathlib.Core.List.{List}
+use Rattle.live.specs.Path.{withRing, withLate, withIds, withLadder, withMisses, withRtts, withSizes, withTraffic, withEtx}
+use Rattle.live.specs.declared.types.Liveness.{Liveness}
+use Rattle.rules.specs.declared.types.Slot.{Slot}
+use Rattle.cells.specs.Cells.{labelIn, usedIn}
+use Rattle.rows.specs.Parts.{withQuiet, withStop}
+use Rattle.rows.specs.View.{row, pathIn, slotIn}
+use Rattle.rows.specs.Encode.{slotRows}
+use Rattle.rows.specs.Says.{Says}
+use Rattle.rows.proofs.NewLaws.{newSlot}
+use Rattle.rows.proofs.SaysLaws.{says-then, says-as}
+use Rattle.rowsays.specs.Probed.{probedWith, measuredWith}
+use Rattle.rowtimes.proofs.StoreLaws.{Part}
+
+-- the ring is a part of a path
+pub ring-part : Part (λ v. v .ring) withRing
+ring-part = record { same = λ v. refl; new = λ v x. refl; last = λ v x y. refl }
+
+-- the rows after each store are told by its contract
+module _ {a b c d e f : List (List ℕ)} (q : Liveness) where
+  pub probes-saved : Says a b (withRing (pathIn a) (q .ring)) → Says b c (withLate (pathIn b) (q .late))
+      → Says c d (withIds (pathIn c) (q .ids)) → Says d e (withLadder (pathIn d) (q .ladder))
+      → Says e f (withMisses (pathIn e) (q .misses)) → Says a f (probedWith (pathIn a) q)
+  probes-saved s t u v w =
+      says-as (says-then (says-then (says-then (says-then s t) u) v) w)
+      (λ i. withMisses (chain i) (q .misses))
+    where
+      first : pathIn c ≡ withLate (withRing (pathIn a) (q .ring)) (q .late)
+      first = t .path ∙ ap (λ (x : Liveness). withLate x (q .late)) (s .path)
+
+      chain : pathIn e ≡ withLadder (withIds (withLate (withRing (pathIn a) (q .ring)) (q .late)) (q .ids)) (q .ladder)
+      chain =
+          v .path ∙ ap (λ (x : Liveness). withLadder x (q .ladder))
+          (u .path ∙ ap (λ (x : Liveness). withIds x (q .ids)) first)
+
+module _ {a b c d e f g : List (List ℕ)} (q : Liveness) where
+  pub measures-saved : Says a b (withRtts (pathIn a) (q .rtts)) → Says b c (withSizes (pathIn b) (q .sizes))
+      → Says c d (withTraffic (pathIn c) (q .traffic)) → Says d e (withEtx (pathIn d) (q .etx))
+      → Says e f (withQuiet (pathIn e) (q .silence .quiet)) → Says f g (withStop (pathIn f) (q .silence .stop))
+      → Says a g (measuredWith (pathIn a) q)
+  measures-saved s t u v w x =
+      says-as (says-then (says-then (says-then (says-then (says-then s t) u) v) w) x)
+      (ap (λ (y : Liveness). withStop y (q .silence .stop))
+      (w .path ∙ ap (λ (y : Liveness). withQuiet y (q .silence .quiet)) chain))
+    where
+      first : pathIn c ≡ withSizes (withRtts (pathIn a) (q .rtts)) (q .sizes)
+      first = t .path ∙ ap (λ (y : Liveness). withSizes y (q .sizes)) (s .path)
+
+      chain : pathIn e ≡ withEtx (withTraffic (withSizes (withRtts (pathIn a) (q .rtts)) (q .sizes)) (q .traffic)) (q .etx)
+      chain =
+          v .path ∙ ap (λ (y : Liveness). withEtx y (q .etx))
+          (u .path ∙ ap (λ (y : Liveness). withTraffic y (q .traffic)) first)
+
+-- a new slot, then the path's probes and its measures
+pub slot-saved : (s : Slot) {b c d : List (List ℕ)}
+    → (b ≡ slotRows (newSlot (s .used) (s .label))) × (slotIn b ≡ newSlot (s .used) (s .label))
+    → Says b c (probedWith (pathIn b) (s .path)) → Says c d (measuredWith (pathIn c) (s .path))
+    → (d ≡ slotRows s) × (slotIn d ≡ s)
+slot-saved s {b} {c} {d} n t u =
+    let w = says-then t u in
+    let p : pathIn d ≡ s .path = u .path ∙ ap (λ (x : Liveness). measuredWith x (s .path)) (t .path) in
+    let l : slotIn d ≡ record { path = s .path; label = slotIn b .label; used = slotIn b .used } =
+        λ k. record { path = p k; label = labelIn (w .marks k); used = usedIn (w .marks k) } in
+    let m : slotIn d ≡ s =
+        l ∙ (λ k. record { path = s .path; label = n .1 k .label; used = n .1 k .used }) in
+    let o : slotRows (slotIn d) ≡ d = w .coded (ap slotRows (n .1) ∙ sym (n .0)) in
+    (sym o ∙ ap slotRows m, m)
