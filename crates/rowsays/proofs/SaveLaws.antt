@@ -1,18 +1,27 @@
 -- Parts stored one after the other, and a slot stored whole.
 -- Assumes nothing.
-use Prim.Native.Nat.{ℕ}
+use Prim.Native.Nat.{ℕ, suc, _+_, _<_, _≤_}
 use mathlib.Core.Path.{_≡_, refl, ap, sym, _∙_}
-use mathlib.Core.List.{List}
+use mathlib.Core.List.{List, [], _∷_, _++_, map}
+use native.Mathlib.Omega.{arith}
+use native.Mathlib.Numerals.{add-one}
+use lib.ListN.{length, take, getD}
+use lib.Seq.{take-suc, take-all}
+use Rattle.base.proofs.ScanLaws.{map-append}
 use Rattle.live.specs.Path.{withRing, withLate, withIds, withLadder, withMisses, withRtts, withSizes, withTraffic, withEtx}
 use Rattle.live.specs.declared.types.Liveness.{Liveness}
+use Rattle.rules.specs.declared.types.Record.{Record}
 use Rattle.rules.specs.declared.types.Slot.{Slot}
 use Rattle.cells.specs.Cells.{labelIn, usedIn}
+use Rattle.cells.specs.Code.{settingsRow}
+use Rattle.cells.proofs.RowLaws.{settings-says}
 use Rattle.rows.specs.Parts.{withQuiet, withStop}
 use Rattle.rows.specs.View.{row, pathIn, slotIn}
 use Rattle.rows.specs.Encode.{slotRows}
 use Rattle.rows.specs.Says.{Says}
 use Rattle.rows.proofs.NewLaws.{newSlot}
 use Rattle.rows.proofs.SaysLaws.{says-then, says-as}
+use Rattle.rowpeer.specs.Record.{recordIn, recordRows}
 use Rattle.rowsays.specs.Probed.{probedWith, measuredWith}
 use Rattle.rowtimes.proofs.StoreLaws.{Part}
 
@@ -69,3 +78,35 @@ slot-saved s {b} {c} {d} n t u =
         l ∙ (λ k. record { path = s .path; label = n .1 k .label; used = n .1 k .used }) in
     let o : slotRows (slotIn d) ≡ d = w .coded (ap slotRows (n .1) ∙ sym (n .0)) in
     (sym o ∙ ap slotRows m, m)
+
+-- the first i slots of l are said by their rows
+pub record Said (l : List Slot) (i : ℕ) : Type 0 where
+  pub eight : length l ≡ 8
+  pub some : map slotIn (map slotRows (take i l)) ≡ take i l
+
+pub said-start : {l : List Slot} → length l ≡ 8 → Said l 0
+said-start h = record { eight = h; some = refl }
+
+pub said-next : {l : List Slot} {i : ℕ} (d : Slot) → Said l i → i < 8 → slotIn (slotRows (getD l i d)) ≡ getD l i d
+    → Said l (i + 1)
+said-next {l} {i} d s h e =
+    let t : take (suc i) l ≡ take i l ++ (getD l i d ∷ []) = take-suc l i d (omega (arith, s .eight)) in
+    rw add-one
+    (record {
+      eight = s .eight;
+      some =
+          ap (λ (z : List Slot). map slotIn (map slotRows z)) t
+          ∙ ap (map slotIn) (map-append slotRows (take i l) (getD l i d ∷ []))
+          ∙ map-append slotIn (map slotRows (take i l)) (slotRows (getD l i d) ∷ [])
+          ∙ (λ k. s .some k ++ (e k ∷ []))
+          ∙ sym t;
+    })
+
+-- all eight, and the settings
+pub record-saved : (r : Record) {i : ℕ} → Said (r .slots) i → 8 ≤ i
+    → recordIn (settingsRow (r .settings)) (recordRows r) ≡ r
+record-saved r {i} s h =
+    let t : take i (r .slots) ≡ r .slots = take-all i (r .slots) (omega (arith, s .eight)) in
+    let e : map slotIn (map slotRows (r .slots)) ≡ r .slots =
+        ap (λ (z : List Slot). map slotIn (map slotRows z)) (sym t) ∙ s .some ∙ t in
+    λ k. record { settings = settings-says (r .settings) k; slots = e k }

@@ -1,9 +1,11 @@
 // A slot stored in rows by the encoder; and that the encoder's words say what was encoded, whatever it is.
 ghost use mathlib.Core.Path.{_≡_};
 ghost use Rattle.live.specs.Path.{withRing};
+ghost use Rattle.cells.specs.Code.{settingsRow};
 ghost use Rattle.rows.specs.View.{pathIn, slotIn};
 ghost use Rattle.rows.specs.Encode.{slotRows};
 ghost use Rattle.rows.specs.Says.{Says};
+ghost use Rattle.rowpeer.specs.Record.{recordIn, recordRows};
 ghost use Rattle.rowsays.specs.Probed.{probedWith, measuredWith};
 use live::types::Liveness;
 use ring::types::*;
@@ -12,6 +14,7 @@ use rows::probes::*;
 use rules::types::*;
 use rowring::store::set_lates;
 use rowtimes::trips::set_rtts;
+use select::types::PATH_MAX_PER_PEER;
 
 // Stores the ring.
 fn set_ring(p: &mut [[u64; 4]; ROWS], l: [Sent; RING])
@@ -77,4 +80,17 @@ pub fn slot_said(s: Slot)
     let row = [0u64; 4];
     let mut p = [row; ROWS];
     save(&mut p, s);
+}
+
+// The encoder's words of a record say it.
+pub fn record_said(rec: Record)
+    ensures { λ r. ⌜ recordIn (settingsRow (rec .settings)) (recordRows rec) ≡ rec ⌝ }
+{
+    let slots = rec.slots;
+    let mut i: usize = 0;
+    while i < PATH_MAX_PER_PEER {
+        let s = slots[i];
+        slot_said(s);
+        i += 1;
+    }
 }
