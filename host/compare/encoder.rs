@@ -1,5 +1,5 @@
-//! The words of the Rust's record by crates/rows/specs/Encode.antt and crates/cells/specs/Code.antt; and any words as
-//! the encoder would have them, by crates/cells/specs/Cells.antt.
+//! The words of the Rust's record, by crates/rows/specs/Encode.antt and crates/cells/specs/Code.antt;
+//! and any words as the encoder would have them, by crates/cells/specs/Cells.antt.
 
 use crate::kept::{Kept, ROWS, SlotRows};
 use oracle::proto::path::record::{Record, SLOTS};
@@ -119,7 +119,12 @@ fn normal_rows(from: &SlotRows) -> SlotRows {
     let mut rows = [[0; 4]; ROWS];
     for n in 0..LATE + 4 {
         let [at, due, id, len] = from[n];
-        rows[n] = [at, due, id % (1 << 32), len % USED + u64::from(len >= USED) * USED];
+        rows[n] = [
+            at,
+            due,
+            id % (1 << 32),
+            len % USED + u64::from(len >= USED) * USED,
+        ];
     }
     rows[IDS] = from[IDS].map(|x| some(x, 1 << 32));
     for n in [QUIET, RTT] {
@@ -135,12 +140,22 @@ fn normal_rows(from: &SlotRows) -> SlotRows {
     let [tag, t, id, len] = from[SEEK];
     let [a, b] = time([tag, t]);
     rows[SEEK] = [a, b, id % (1 << 32), len % USED];
-    rows[SEEK + 1] = [from[SEEK + 1][0] % USED, some(from[SEEK + 1][1], USED), 0, 0];
+    rows[SEEK + 1] = [
+        from[SEEK + 1][0] % USED,
+        some(from[SEEK + 1][1], USED),
+        0,
+        0,
+    ];
     rows[LADDER] = [some(from[LADDER][0], USED), mark(from[LADDER][1]), 0, 0];
     let [a, b, c, d] = from[ARRIVALS];
     let ([a, b], [c, d]) = (time([a, b]), time([c, d]));
     rows[ARRIVALS] = [a, b, c, d];
-    rows[ARRIVALS + 1] = [from[ARRIVALS + 1][0] % (1 << 32), from[ARRIVALS + 1][1] % (1 << 32), 0, 0];
+    rows[ARRIVALS + 1] = [
+        from[ARRIVALS + 1][0] % (1 << 32),
+        from[ARRIVALS + 1][1] % (1 << 32),
+        0,
+        0,
+    ];
     rows[MISSES][0] = from[MISSES][0] % (1 << 32);
     rows[ETX][0] = match f64::from_bits(from[ETX][0]).is_nan() {
         true => NAN,

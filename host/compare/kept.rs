@@ -107,14 +107,7 @@ impl Kept {
     /// One event, by the bytes that begin with its record.
     pub fn bytes(&mut self, event: &[u8]) -> Taken {
         // The pointer is good for as many bytes as stand beside it; so below.
-        unsafe {
-            hess_record_bytes(
-                &self.settings,
-                &mut self.slots,
-                event.as_ptr(),
-                event.len(),
-            )
-        }
+        unsafe { hess_record_bytes(&self.settings, &mut self.slots, event.as_ptr(), event.len()) }
     }
 
     /// The standing of a slot's path into the lent bytes.
