@@ -30,7 +30,60 @@ struct hess_float_reply {
     double value;
 };
 
-/* ---- a record of up to eight paths */
+/* ---- a record of up to eight paths, kept by the caller */
+
+/*
+ * A record: plain words, the same on every machine, with no pointers in it. It may be copied, stored, sent and read
+ * back as it is. docs/ENTRIES.md says what each word is. Words that no record wrote are read by the same rules as any
+ * other, and are harmless: a call on them gives an answer, and writes nowhere but in this record. The functions take
+ * its two members one by one.
+ */
+struct hess_record {
+    uint64_t settings[4];
+    uint64_t slots[8][65][4];
+};
+
+/* What is said of an event's bytes: as hess_reply, and how many bytes its record has, 0 where none could be read. */
+struct hess_taken {
+    uint64_t number;
+    uint64_t value;
+    uint64_t read;
+};
+
+/* The bytes of a record: 16,672. */
+uint64_t hess_record_size(void);
+
+/*
+ * Makes a record of eight empty slots with these settings, durations, in the words lent. 6: a setting is 2^62 or more;
+ * then nothing is written.
+ */
+struct hess_reply hess_record_new(uint64_t settings[4], uint64_t slots[8][65][4], uint64_t cap, uint64_t gap,
+                                  uint64_t window, uint64_t horizon);
+
+/*
+ * One event, by its numbers: `at` is its instant, `span` a due instant, a round trip, a timeout or a margin's bits,
+ * `id` a draw or an identifier; a field that its kind has not is not read. The settings are read alone. The answer is
+ * that of hess_events; a refused event leaves every word as it was.
+ */
+struct hess_reply hess_record_event(const uint64_t settings[4], uint64_t slots[8][65][4], uint8_t kind, uint8_t slot,
+                                    uint8_t flags, uint64_t at, uint64_t span, uint32_t id, uint32_t len,
+                                    uint32_t acked);
+
+/*
+ * The same for the event whose record, as in a file, these bytes begin with; bytes behind it are not read. 13: the
+ * record is cut short, or there are no bytes; 15: its kind is none of 1 to 15; 14: it has a map bit that its kind has
+ * not. On these no bytes count as read, and every word stays; else come the event's own number and value.
+ */
+struct hess_taken hess_record_bytes(const uint64_t settings[4], uint64_t slots[8][65][4], const uint8_t *event,
+                                    size_t len);
+
+/*
+ * Writes the standing of a slot's path to `out`; the value is the count of bytes, at most 51, and bytes past them stay
+ * as they are. Refused, with nothing written: 1, the slot is above 7; 2, it is empty; 16, `outlen` is too small.
+ */
+struct hess_reply hess_record_standing(const uint64_t slots[8][65][4], uint8_t slot, uint8_t *out, size_t outlen);
+
+/* ---- a record of up to eight paths, from a file of events */
 
 /*
  * Runs the events of a file, 32 bytes of settings and then records to the end, on a fresh record. Writes to `out` for

@@ -229,7 +229,8 @@ pub fn lists() -> Vec<List> {
 }
 
 impl Theme {
-    fn list(&self, seed: u64, len: usize) -> List {
+    /// A list of events, some with fields that no file can hold.
+    pub fn list(&self, seed: u64, len: usize) -> List {
         self.made(Scene::new(self, Rng::new(seed)), seed, len)
     }
 

@@ -48,6 +48,12 @@ impl Filed {
     pub fn beginning(&self, n: usize) -> &[u8] {
         &self.bytes[..self.ends[n]]
     }
+
+    /// The file from its event `n` on, and the bytes of that event's record.
+    #[allow(dead_code)]
+    pub fn rest(&self, n: usize) -> (&[u8], usize) {
+        (&self.bytes[self.ends[n]..], self.ends[n + 1] - self.ends[n])
+    }
 }
 
 /// Put an event's record behind some bytes; `spare` has the bits of fields that stand though they are 0.

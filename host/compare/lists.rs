@@ -3,6 +3,7 @@
 //!     lists compare         every list, cut and damaged file; a difference ends it with status 1
 //!     lists clauses         demand 3's clauses over the Rust's own record: for faults planted in it
 //!     lists program PATH    the program `pathlog`, byte for byte
+//!     lists rows EVENTS     the record in words, one call an event, every word after each
 
 #[allow(dead_code)]
 mod aims;
@@ -12,16 +13,22 @@ mod book;
 mod calls;
 mod clauses;
 mod damage;
+#[cfg(record)]
+mod encoder;
 #[allow(dead_code)]
 mod entries;
 #[allow(dead_code)]
 mod events;
 mod filed;
+#[cfg(record)]
+mod kept;
 mod ours;
 mod papers;
 mod program;
 mod random;
 mod reach;
+#[cfg(record)]
+mod rows;
 mod smaller;
 #[allow(dead_code)]
 mod wording;
@@ -33,6 +40,8 @@ fn main() {
     match words[..] {
         ["clauses"] => work::clauses(),
         ["program", path] => program::compare(path),
+        #[cfg(record)]
+        ["rows", events] => rows::compare(events.parse().expect("a number of events")),
         _ => work::compare(),
     }
 }

@@ -260,6 +260,32 @@ impl Record {
         other
     }
 
+    /// The settings in nanoseconds: cap, gap, window, horizon.
+    pub fn settings(&self) -> [u64; 4] {
+        [self.cap, self.gap, self.window, self.horizon].map(|d| d.0)
+    }
+
+    /// What the open of a slot said: its full size, and its flags.
+    pub fn label(&self, slot: usize) -> Option<[u64; 2]> {
+        self.slots[slot].as_ref().map(|slot| {
+            let medium = match slot.medium {
+                Medium::Ble => 0,
+                Medium::Wired => 1,
+                Medium::Wireless => 2,
+                Medium::Unknown => 3,
+            };
+            let role = match slot.role {
+                Role::Never => 0,
+                Role::Backup => 1,
+                Role::Normal => 2,
+                Role::Preferred => 3,
+            };
+            let marks = [slot.pinned, slot.fits, slot.preferred].map(u64::from);
+            let flags = medium + 4 * role + 16 * marks[0] + 32 * marks[1] + 64 * marks[2];
+            [slot.full as u64, flags]
+        })
+    }
+
     /// The path in a slot, if it is open.
     pub(super) fn path(&self, slot: usize) -> Option<&Liveness<u64>> {
         self.slots[slot].as_ref().map(|slot| &slot.live)

@@ -28,6 +28,13 @@ pub fn put_standing(live: &Liveness<u64>, out: &mut Vec<u8>) {
 }
 
 impl Record {
+    /// Put an open slot's standing behind some bytes; whether it is open.
+    pub fn put_slot(&self, slot: usize, out: &mut Vec<u8>) -> bool {
+        self.path(slot)
+            .map(|live| put_standing(live, out))
+            .is_some()
+    }
+
     /// Put each open slot's number and standing behind some bytes, from slot 0 on.
     pub fn put_standings(&self, out: &mut Vec<u8>) {
         for slot in 0..SLOTS {

@@ -1,3 +1,4 @@
 -- Laws that the proofs of several functions cite.
 mod PartLaws
 mod ChoiceLaws
+mod RecordLaws

@@ -2,3 +2,4 @@
 pub mod Entries
 pub mod Choice
 pub mod Events
+pub mod Record

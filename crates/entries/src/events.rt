@@ -8,7 +8,7 @@ use crate::Reply;
 use standing::types::Written;
 
 // The bytes written, or the refusal.
-fn of_written(answer: Written) -> Reply
+pub fn of_written(answer: Written) -> Reply
     ensures { λ r. ⌜ r ≡ writtenReply answer ⌝ }
 {
     match answer {

@@ -20,6 +20,7 @@ use seek::types::Ladder;
 
 pub mod choice;
 pub mod events;
+pub mod record;
 
 // A refusal number, 0 if accepted, and the value, 0 if refused.
 #[repr(C)]

@@ -1,0 +1,144 @@
+// A peer record that the caller keeps: four words of settings and eight slots of 65 rows, lent to each call. Any words
+// are read by the same rules; nothing is required of them.
+ghost use mathlib.Core.Path.{_≡_};
+ghost use mathlib.Core.Bool.{cond};
+ghost use mathlib.Core.List.{[]};
+ghost use lib.ListN.{length};
+ghost use Rattle.rules.specs.Step.{allowed, freshRecord, recordOf};
+ghost use Rattle.eventfile.specs.File.{parseOf};
+ghost use Rattle.standing.specs.Standing.{slotWritten, slotOut};
+ghost use Rattle.cells.specs.Code.{settingsRow};
+ghost use Rattle.rowpeer.specs.Record.{recordIn, recordRows};
+ghost use Rattle.entries.specs.Events.{writtenReply};
+ghost use Rattle.entries.specs.Record.{recordSize, settingsWith, eventWith, replyOf, noneTaken, TakenHere};
+ghost use Rattle.entries.specs.Record.{StepsHere, takenBy};
+use base::types::Refusal;
+use crate::Reply;
+use eventfile::types::Parse;
+use rules::types::Event;
+use rules::types::Settings;
+
+// A refusal number, 0 if accepted, the value, 0 if refused, and how many bytes the event's record has, 0 where none
+// could be read.
+#[repr(C)]
+pub struct Taken {
+    pub number: u64,
+    pub value: u64,
+    pub read: u64,
+}
+
+// An answer of the record, as a number and a value.
+fn reply_of(reply: rules::types::Reply) -> Reply
+    ensures { λ r. ⌜ r ≡ replyOf reply ⌝ }
+{
+    Reply {
+        number: turns::reply::number_of(reply),
+        value: turns::reply::value_of(reply),
+    }
+}
+
+// The bytes of a record.
+#[no_mangle]
+pub extern "C" fn hess_record_size() -> u64
+    ensures { λ r. ⌜ r ≡ recordSize ⌝ }
+{
+    8 * (4 + 8 * 65 * 4)
+}
+
+// Makes a record of eight empty slots in the lent words; 6 for a setting of 2^62 or more, and nothing is written.
+#[no_mangle]
+pub extern "C" fn hess_record_new(
+    settings: &mut [u64; 4],
+    slots: &mut [[[u64; 4]; 65]; 8],
+    cap: u64,
+    gap: u64,
+    window: u64,
+    horizon: u64,
+) -> Reply
+    ensures { λ r. let s = settingsWith cap gap window horizon in ⌜ (r ≡ replyOf (recordOf s .reply))
+        × (now (settings .exit) ≡ cond (allowed s) (settingsRow s) (now (settings .entry)))
+        × (now (slots .exit) ≡ cond (allowed s) (recordRows (freshRecord s)) (now (slots .entry))) ⌝ }
+{
+    let s = Settings {
+        cap: cap,
+        gap: gap,
+        window: window,
+        horizon: horizon,
+    };
+    reply_of(rowpeer::record::new(settings, slots, s))
+}
+
+// One event: the answer, and the record after it in the same words. A refused event leaves every word.
+#[no_mangle]
+pub extern "C" fn hess_record_event(
+    settings: &[u64; 4],
+    slots: &mut [[[u64; 4]; 65]; 8],
+    kind: u8,
+    slot: u8,
+    flags: u8,
+    at: u64,
+    span: u64,
+    id: u32,
+    len: u32,
+    acked: u32,
+) -> Reply
+    ensures { λ r. ⌜ StepsHere (now (settings .entry)) (now (slots .entry)) (now (slots .exit)) r
+        (eventWith kind slot flags at span id len acked) ⌝ }
+{
+    let e = Event {
+        now: at,
+        span: span,
+        id: id,
+        len: len,
+        acked: acked,
+        kind: kind,
+        slot: slot,
+        flags: flags,
+    };
+    reply_of(rowpeer::record::event(settings, slots, e))
+}
+
+// No event could be read.
+fn none_taken(why: Refusal) -> Taken
+    ensures { λ r. ⌜ r ≡ noneTaken why ⌝ }
+{
+    Taken {
+        number: why.number(),
+        value: 0,
+        read: 0,
+    }
+}
+
+// The event whose record the bytes begin with, and how many bytes that record has: 13 for too few of them or none, 15,
+// 14; on these no byte counts as read and no word changes.
+#[no_mangle]
+pub extern "C" fn hess_record_bytes(settings: &[u64; 4], slots: &mut [[[u64; 4]; 65]; 8], event: &[u8]) -> Taken
+    ensures { λ r. let found = parseOf (now (event .entry)) 0 in
+        ⌜ (r ≡ takenBy (recordIn (now (settings .entry)) (now (slots .entry))) found)
+        × TakenHere (now (settings .entry)) (now (slots .entry)) (now (slots .exit)) found ⌝ }
+{
+    let found = eventfile::record_at(event, 0);
+    match found {
+        Parse::End => none_taken(Refusal::Cut),
+        Parse::Refused(why, kind) => none_taken(why),
+        Parse::Event(e, next) => {
+            let reply = rowpeer::record::event(settings, slots, e);
+            Taken {
+                number: turns::reply::number_of(reply),
+                value: turns::reply::value_of(reply),
+                read: next as u64,
+            }
+        }
+    }
+}
+
+// Writes the standing of a slot's path; the value is the count of bytes. 1 for a slot above 7, 2 for an empty one, 16
+// for too few lent bytes; a refusal writes nothing.
+#[no_mangle]
+pub extern "C" fn hess_record_standing(slots: &[[[u64; 4]; 65]; 8], slot: u8, out: &mut [u8]) -> Reply
+    ensures { λ r. let held = recordIn [] (now (slots .entry)) in
+        ⌜ (r ≡ writtenReply (slotWritten held slot (length (now (out .entry)))))
+        × (now (out .exit) ≡ slotOut held slot (now (out .entry))) ⌝ }
+{
+    crate::events::of_written(rowpeer::standings::standing(slots, slot, out))
+}

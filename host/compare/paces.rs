@@ -1,0 +1,231 @@
+//! Nanoseconds an event: ours on a record in words, one C call each; the Rust's record in place, with
+//! the same refusals; ours by value, whole files through `hess_events`.
+
+#[allow(dead_code)]
+mod aims;
+#[allow(dead_code)]
+mod calls;
+#[allow(dead_code)]
+mod entries;
+#[allow(dead_code)]
+mod events;
+#[allow(dead_code)]
+mod filed;
+#[allow(dead_code)]
+mod kept;
+#[allow(dead_code)]
+mod ours;
+mod papers;
+mod random;
+
+use events::{
+    ANSWER, CHOOSE, FOLD, FRESH, HEAR, JUDGE, OPEN, POLL, PROBE, PROVE, SAMPLE, SEARCH, SWEEP, THAW,
+};
+use filed::Filed;
+use kept::Kept;
+use oracle::proto::path::record::{Event, Record, SLOTS};
+use ours::Ours;
+use std::hint::black_box;
+use std::time::Instant;
+
+/// Events in a list, runs of which the median is taken, lists in a run; of by value fewer.
+const EVENTS: usize = 2_000;
+const RUNS: usize = 9;
+const LISTS: usize = 100;
+const FILES: usize = 4;
+const SECOND: u64 = 1_000_000_000;
+/// Cap, gap, window, horizon.
+const SETTINGS: [u64; 4] = [100, SECOND, 1 << 60, 60 * SECOND];
+
+/// What is repeated: the events of a turn by its number and the next identifier.
+type Turn = fn(u64, u32) -> Vec<Event>;
+
+/// An event on slot 0.
+fn of(kind: u8, fields: [u64; 6]) -> Event {
+    Event::of(kind, 0, fields)
+}
+
+/// A probe at an instant, due so much later.
+fn probe(at: u64, wait: u64) -> Event {
+    of(PROBE, [at, at + wait, 7, 100, 0, 0])
+}
+
+fn answer(at: u64, id: u32, acked: u64) -> Event {
+    of(ANSWER, [at, 0, id.into(), 0, acked, 0])
+}
+
+fn poll(at: u64) -> Event {
+    of(POLL, [at, 0, 0, 0, 0, 0])
+}
+
+/// Four things that a path begins a turn of a search with: an instant, the proven size and the search.
+fn search(n: u64) -> Vec<Event> {
+    let at = (n + 1) * 4 * SECOND;
+    vec![
+        of(PROVE, [0, 0, 0, 100, 0, 0]),
+        of(SEARCH, [at, 0, 7, 0, 0, 0]),
+    ]
+}
+
+/// What each row repeats.
+fn turns() -> [(&'static str, Turn); 15] {
+    [
+        ("probe, answer", |n, id| {
+            vec![probe(9 * n, 4), answer(9 * n + 1, id, 100)]
+        }),
+        ("8 probes, 8 answers", |n, id| {
+            let probes = [probe(9 * n, 4); 8];
+            let answers = (0..8).map(|k| answer(9 * n + 1, id + k, 100));
+            probes.into_iter().chain(answers).collect()
+        }),
+        ("probe, poll (lapse)", |n, _| {
+            vec![probe(9 * n, 4), poll(9 * n + 4)]
+        }),
+        ("probe, data, poll (deferral), poll (lapse)", |n, _| {
+            let at = 900 * n;
+            let data = of(HEAR, [at + 1, 0, 0, 100, 0, 0]);
+            vec![probe(at, 4), data, poll(at + 4), poll(at + 300)]
+        }),
+        ("poll (nothing waits)", |n, _| vec![poll(n)]),
+        ("data", |n, _| vec![of(HEAR, [n, 0, 0, 100, 0, 0])]),
+        ("sample (32 in the window)", |n, _| {
+            vec![of(SAMPLE, [n * 100_000_000, 7, 0, 0, 0, 0])]
+        }),
+        ("fold", |n, _| vec![of(FOLD, [0, 0, 0, 0, 0, n % 2])]),
+        ("prove", |n, _| {
+            vec![of(PROVE, [0, 0, 0, 100 + n % 9, 0, 0])]
+        }),
+        ("prove, search, answer (search)", |n, id| {
+            let mut all = search(n);
+            all.push(answer((n + 1) * 4 * SECOND + 1, id, 1_200));
+            all
+        }),
+        (
+            "prove, search, probe, answer, judge (lost), fresh",
+            |n, id| {
+                let at = (n + 1) * 4 * SECOND;
+                let mut all = search(n);
+                all.extend([
+                    probe(at, 4),
+                    answer(at + 1, id + 1, 100),
+                    of(JUDGE, [at + SECOND, 9, 0, 0, 0, 0]),
+                    of(FRESH, [0; 6]),
+                ]);
+                all
+            },
+        ),
+        ("fresh", |_, _| vec![of(FRESH, [0; 6])]),
+        ("thaw", |_, _| vec![of(THAW, [0; 6])]),
+        ("4 probes, sweep", |n, _| {
+            let mut all = vec![probe(9 * n, 4); 4];
+            all.push(of(SWEEP, [0; 6]));
+            all
+        }),
+        ("choose (8 paths, 32 samples each)", |_, _| {
+            vec![of(CHOOSE, [0, 1.3f64.to_bits(), 0, 0, 0, 0])]
+        }),
+    ]
+}
+
+/// Opens all slots; where a choice is to be made, each gets 32 samples.
+fn opened(sampled: bool) -> Vec<Event> {
+    let mut all = Vec::new();
+    for slot in 0..SLOTS as u8 {
+        all.push(Event::of(OPEN, slot, [0, 0, 0, 1_200, 0, 0x68]));
+        for n in 0..32 * u64::from(sampled) {
+            let rtt = 1_000_000 * (9 + u64::from(slot)) + n;
+            all.push(Event::of(SAMPLE, slot, [n * 1_000, rtt, 0, 0, 0, 0]));
+        }
+    }
+    all
+}
+
+/// The list of a row: what comes before the clock, and the events in the time. None may be refused.
+fn list(name: &str, turn: Turn) -> (Vec<Event>, Vec<Event>) {
+    let before = opened(name.starts_with("choose"));
+    let mut record = Record::new(SETTINGS).expect("allowed settings");
+    for event in &before {
+        assert_eq!(record.event(event).0, 0, "refused: {name}");
+    }
+    let mut all = Vec::new();
+    let mut id = 7;
+    for n in 0.. {
+        let events = turn(n, id);
+        if all.len() + events.len() > EVENTS {
+            break;
+        }
+        for event in &events {
+            assert_eq!(record.event(event).0, 0, "refused: {name}, {event:?}");
+            id += u32::from([PROBE, SEARCH].contains(&event.kind));
+        }
+        all.extend(events);
+    }
+    (before, all)
+}
+
+fn main() {
+    println!();
+    println!("| Events | on words, ns an event | the Rust's | ratio | by value | ratio |");
+    println!("|---|---|---|---|---|---|");
+    for (name, turn) in turns() {
+        let (before, events) = list(name, turn);
+        let [words, rust, value] = times(&before, &events);
+        println!(
+            "| {name} | {words:.1} | {rust:.1} | {:.2} | {value:.0} | {:.1} |",
+            words / rust,
+            value / rust
+        );
+    }
+    println!();
+    println!("A record in words: {} bytes.", Kept::size());
+}
+
+/// Medians of nanoseconds an event: on words, the Rust's, by value.
+fn times(before: &[Event], events: &[Event]) -> [f64; 3] {
+    let mut words = Kept::filled(|| 0);
+    let mut rust = Record::new(SETTINGS).expect("allowed settings");
+    assert_eq!(words.renew(SETTINGS).number, 0);
+    for event in before {
+        let reply = words.event(event);
+        assert_eq!((reply.number, reply.value), rust.event(event));
+    }
+    let file = Filed::new(SETTINGS, [before, events].concat(), || 0);
+    let lent = 16 * file.events.len() + SLOTS * 52;
+    let mut ours = Ours::default();
+    let mut all = [const { Vec::new() }; 3];
+    for _ in 0..RUNS {
+        let (a, sum) = run(LISTS, events, || {
+            let mut words = words.clone();
+            events.iter().map(|e| words.event(black_box(e)).value).sum()
+        });
+        let (b, same) = run(LISTS, events, || {
+            let mut rust = rust.clone();
+            events.iter().map(|e| rust.event(black_box(e)).1).sum()
+        });
+        assert_eq!(sum, same, "ours differs from the Rust's");
+        let (c, _) = run(FILES, &file.events, || {
+            let (reply, _) = ours.run(&file.bytes, lent).expect("a whole file");
+            assert_eq!(reply.number, 0);
+            reply.value
+        });
+        for (all, time) in all.iter_mut().zip([a, b, c]) {
+            all.push(time);
+        }
+    }
+    all.map(median)
+}
+
+/// Nanoseconds an event over so many lists, and what their values come to.
+fn run(lists: usize, events: &[Event], mut list: impl FnMut() -> u64) -> (f64, u64) {
+    let start = Instant::now();
+    let sum = (0..lists)
+        .map(|_| black_box(list()))
+        .fold(0, u64::wrapping_add);
+    let time = start.elapsed().as_nanos() as f64;
+    (time / (lists * events.len()) as f64, sum)
+}
+
+fn median(mut times: Vec<f64>) -> f64 {
+    times.sort_by(f64::total_cmp);
+    times[times.len() / 2]
+}

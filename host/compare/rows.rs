@@ -1,0 +1,366 @@
+//! A record in words beside the Rust's record: one call an event, by numbers and by bytes in turn.
+//! After every event the reply, all standings and every word, which must be the encoder's. Then words
+//! that no record wrote.
+
+use crate::damage::damaged;
+use crate::encoder::{encoded, normal, slot_rows};
+use crate::entries::Reply;
+use crate::events::{List, THEMES};
+use crate::filed::Filed;
+use crate::kept::{Guarded, Kept};
+use crate::papers;
+use crate::random::Rng;
+use oracle::proto::path::eventfile::{Next, SETTINGS, record_at};
+use oracle::proto::path::record::{Event, Record, SLOTS};
+use std::sync::atomic::{AtomicUsize, Ordering};
+use std::time::Instant;
+
+/// Threads; the most bytes of a standing; the seed of the lists.
+const THREADS: usize = 2;
+const STANDING: usize = 51;
+const SEED: u64 = 900;
+/// One list in so many has damaged bytes beside it, one in so many runs on words that no record wrote.
+const DAMAGED: usize = 8;
+const STRANGE: usize = 4;
+/// Copies of such words.
+const COPIES: u64 = 3;
+/// One list in so many has thousands of events.
+const LONG: usize = 500;
+
+/// What was compared.
+#[derive(Default)]
+pub struct Tally {
+    lists: u64,
+    events: u64,
+    by_bytes: u64,
+    refused: u64,
+    unread: u64,
+    standings: u64,
+    few: u64,
+    strange: u64,
+    strange_refused: u64,
+}
+
+impl Tally {
+    fn add(&mut self, other: &Self) {
+        self.lists += other.lists;
+        self.events += other.events;
+        self.by_bytes += other.by_bytes;
+        self.refused += other.refused;
+        self.unread += other.unread;
+        self.standings += other.standings;
+        self.few += other.few;
+        self.strange += other.strange;
+        self.strange_refused += other.strange_refused;
+    }
+
+    /// Calls of ours with an event.
+    fn all(&self) -> u64 {
+        self.events + self.unread + COPIES * self.strange
+    }
+}
+
+/// Compare at least so many events beside the Rust's record, and the others on the way.
+pub fn compare(events: u64) {
+    let start = Instant::now();
+    assert_eq!(Kept::size(), size_of::<Kept>() as u64, "hess_record_size");
+    let next = AtomicUsize::new(0);
+    let done = AtomicUsize::new(0);
+    let work = || {
+        let mut tally = Tally::default();
+        while (done.load(Ordering::Relaxed) as u64) < events {
+            let n = next.fetch_add(1, Ordering::Relaxed);
+            let before = tally.events;
+            if let Err(what) = piece(&mut tally, n) {
+                println!("rows, list {n}: {what}");
+                std::process::exit(1);
+            }
+            done.fetch_add((tally.events - before) as usize, Ordering::Relaxed);
+        }
+        tally
+    };
+    let tally = std::thread::scope(|scope| {
+        let threads: Vec<_> = (0..THREADS).map(|_| scope.spawn(work)).collect();
+        let mut all = Tally::default();
+        for thread in threads {
+            all.add(&thread.join().expect("a thread ends"));
+        }
+        all
+    });
+    print(&tally);
+    println!(
+        "no difference in rows; {:.1} seconds",
+        start.elapsed().as_secs_f64()
+    );
+}
+
+fn print(t: &Tally) {
+    println!(
+        "{} calls with an event on a record in words: {} in {} lists beside the Rust's record ({} by bytes, {} refused), \
+         {} that can't be read, {} on words that no record wrote, each on {COPIES} copies ({} refused)",
+        t.all(),
+        t.events,
+        t.lists,
+        t.by_bytes,
+        t.refused,
+        t.unread,
+        t.strange,
+        t.strange_refused
+    );
+    println!(
+        "  {} standings, {} with too few lent bytes; every word the encoder's after every event",
+        t.standings, t.few
+    );
+}
+
+/// One list, and what hangs on its number.
+fn piece(tally: &mut Tally, n: usize) -> Result<(), String> {
+    let papers = papers::lists();
+    let mut rng = Rng::new(SEED.wrapping_add((n as u64) << 20));
+    let list = match papers.into_iter().nth(n) {
+        Some(list) => list,
+        None => made(&mut rng, n),
+    };
+    let filed = Filed::of(&list, rng.next());
+    Sides::new(&list)?.run(tally, &list, &filed)?;
+    tally.lists += 1;
+    if n % DAMAGED == 0 && !filed.events.is_empty() {
+        Sides::new(&list)?.file(tally, &damaged(&filed, &mut rng))?;
+    }
+    if n % STRANGE == 0 {
+        strange(tally, &list, &mut rng)?;
+    }
+    Ok(())
+}
+
+/// A list of a theme, as a file can hold it or not.
+fn made(rng: &mut Rng, n: usize) -> List {
+    let theme = &THEMES[n % THEMES.len()];
+    let len = match n % LONG {
+        0 => 3_000 + rng.below(3_000),
+        1..20 => 150 + rng.below(250),
+        _ => 20 + rng.below(60),
+    };
+    match n % 2 {
+        0 => theme.filed(rng.next(), len as usize),
+        _ => theme.list(rng.next(), len as usize),
+    }
+}
+
+/// Both sides of one list.
+struct Sides {
+    record: Record,
+    ours: Box<Guarded>,
+    /// The encoder's words of the Rust's record.
+    words: Box<Kept>,
+    told: Vec<u8>,
+}
+
+impl Sides {
+    /// New in words that are not 0; settings that are too large write nothing.
+    fn new(list: &List) -> Result<Self, String> {
+        let mut ours = Box::new(Guarded::new(Kept::filled(|| 0x0123_4567_89ab_cdef)));
+        let before = ours.kept.clone();
+        let [cap, gap, window, _] = list.settings;
+        let refused = ours.kept.renew([cap, gap, window, 1 << 62]);
+        if (refused.number, refused.value) != (6, 0) || ours.kept != before {
+            return Err(format!("settings of 2^62: {refused:?}"));
+        }
+        let reply = ours.kept.renew(list.settings);
+        let record = Record::new(list.settings).expect("allowed settings");
+        let words = Box::new(encoded(&record));
+        if (reply.number, reply.value) != (0, 0) || ours.kept != *words {
+            return Err(format!("a new record: {reply:?}, or other words"));
+        }
+        Ok(Self {
+            record,
+            ours,
+            words,
+            told: Vec::new(),
+        })
+    }
+
+    /// The list's events: those that a file can hold by numbers and by bytes in turn, the others by numbers.
+    fn run(&mut self, tally: &mut Tally, list: &List, filed: &Filed) -> Result<(), String> {
+        let same = list.events == filed.events;
+        for (n, event) in list.events.iter().enumerate() {
+            let reply = match same && n % 2 == 1 {
+                true => self.by_bytes(tally, filed, n)?,
+                false => self.ours.kept.event(event),
+            };
+            self.event(tally, event, reply)
+                .map_err(|what| format!("event {}, {event:?}: {what}", n + 1))?;
+        }
+        match *self.words == encoded(&self.record) && self.ours.whole() {
+            true => Ok(()),
+            false => Err("at the end: other words".to_string()),
+        }
+    }
+
+    /// An event by the file's bytes from it on.
+    fn by_bytes(&mut self, tally: &mut Tally, filed: &Filed, n: usize) -> Result<Reply, String> {
+        let (rest, size) = filed.rest(n);
+        let taken = self.ours.kept.bytes(rest);
+        tally.by_bytes += 1;
+        match taken.read == size as u64 {
+            true => Ok(Reply {
+                number: taken.number,
+                value: taken.value,
+            }),
+            false => Err(format!("event {}: {taken:?}, {size} bytes", n + 1)),
+        }
+    }
+
+    /// The Rust's record after an event, and what ours answered: the reply, the words, the standings.
+    fn event(&mut self, tally: &mut Tally, event: &Event, ours: Reply) -> Result<(), String> {
+        let rust = self.record.event(event);
+        if (ours.number, ours.value) != rust {
+            return Err(format!("ours {ours:?}, the Rust's {rust:?}"));
+        }
+        // A refused event leaves every word: those of before are compared.
+        let slot = usize::from(event.slot);
+        if rust.0 == 0 && slot < SLOTS {
+            self.words.slots[slot] = slot_rows(&self.record, slot);
+        }
+        if self.ours.kept != *self.words {
+            return Err(self.differing());
+        }
+        tally.events += 1;
+        tally.refused += u64::from(rust.0 != 0);
+        self.standings(tally)
+    }
+
+    /// The first row that differs.
+    fn differing(&self) -> String {
+        for slot in 0..SLOTS {
+            let (ours, words) = (&self.ours.kept.slots[slot], &self.words.slots[slot]);
+            if let Some(row) = (0..ours.len()).find(|&row| ours[row] != words[row]) {
+                let (ours, words) = (ours[row], words[row]);
+                return format!("slot {slot}, row {row}: ours {ours:x?}, the encoder's {words:x?}");
+            }
+        }
+        "other settings".to_string()
+    }
+
+    /// The standings of all slots, one more than there are; now and then with too few lent bytes.
+    fn standings(&mut self, tally: &mut Tally) -> Result<(), String> {
+        for slot in 0..=SLOTS {
+            let mut out = [0xe7; STANDING + 1];
+            self.told.clear();
+            let number = match slot < SLOTS {
+                true if self.record.put_slot(slot, &mut self.told) => 0,
+                true => 2,
+                false => 1,
+            };
+            let reply = self.ours.kept.standing(slot as u8, &mut out);
+            let told = self.told.len();
+            let whole = out[..told] == self.told && out[told..].iter().all(|&b| b == 0xe7);
+            if (reply.number, reply.value) != (number, told as u64) || !whole {
+                return Err(format!("the standing of slot {slot}: {reply:?}"));
+            }
+            tally.standings += u64::from(number == 0);
+            if number == 0 && tally.events % 64 == 0 {
+                let mut out = [0xe7; STANDING];
+                let lent = told - 1 - (tally.events / 64) as usize % told;
+                let reply = self.ours.kept.standing(slot as u8, &mut out[..lent]);
+                if (reply.number, reply.value) != (16, 0) || out != [0xe7; STANDING] {
+                    return Err(format!("slot {slot}, {lent} lent bytes: {reply:?}"));
+                }
+                tally.few += 1;
+            }
+        }
+        Ok(())
+    }
+
+    /// The records of a file that may be damaged, to the first that can't be read: it changes nothing.
+    fn file(&mut self, tally: &mut Tally, file: &[u8]) -> Result<(), String> {
+        let mut rest = file.get(SETTINGS..).unwrap_or_default();
+        loop {
+            let taken = self.ours.kept.bytes(rest);
+            let (event, size) = match record_at(rest) {
+                Next::Event(event, size) => (event, size),
+                Next::End => return self.unread(tally, taken, 13),
+                Next::Bad(number, _) => return self.unread(tally, taken, number),
+            };
+            if taken.read != size as u64 {
+                return Err(format!("damaged: {taken:?}, {size} bytes"));
+            }
+            let (number, value) = (taken.number, taken.value);
+            self.event(tally, &event, Reply { number, value })
+                .map_err(|what| format!("damaged, {event:?}: {what}"))?;
+            tally.by_bytes += 1;
+            rest = &rest[size..];
+        }
+    }
+
+    /// Bytes that no event can be read from.
+    fn unread(
+        &mut self,
+        tally: &mut Tally,
+        taken: crate::kept::Taken,
+        number: u64,
+    ) -> Result<(), String> {
+        tally.unread += 1;
+        let right = (taken.number, taken.value, taken.read) == (number, 0, 0);
+        match right && self.ours.kept == *self.words {
+            true => Ok(()),
+            false => Err(format!("unread, {number}: {taken:?}, or other words")),
+        }
+    }
+}
+
+/// A list on words that no record wrote: a second copy answers the same; the encoder's words of the same record
+/// answer the same, and stay the encoder's for what the others say; a refusal leaves every word.
+fn strange(tally: &mut Tally, list: &List, rng: &mut Rng) -> Result<(), String> {
+    let mut some = rng.clone();
+    let dense = 1 + rng.below(100);
+    let mut ours = Box::new(Guarded::new(Kept::filled(|| match some.percent(dense) {
+        true => some.wide(),
+        false => some.below(3),
+    })));
+    let mut second = Box::new(Guarded::new(ours.kept.clone()));
+    let mut coded = Box::new(Guarded::new(normal(&ours.kept)));
+    let mut before = ours.kept.clone();
+    for (n, event) in list.events.iter().enumerate() {
+        let mut event = *event;
+        if rng.percent(20) {
+            event.slot = rng.below(9) as u8;
+        }
+        let reply = ours.kept.event(&event);
+        let replies = [second.kept.event(&event), coded.kept.event(&event)];
+        let fail = |what: &str| Err(format!("strange words, event {}, {event:?}: {what}", n + 1));
+        if replies != [reply; 2] {
+            return fail(&format!("{reply:?} and {replies:?}"));
+        }
+        if ours.kept != second.kept {
+            return fail("other words in the second copy");
+        }
+        if normal(&ours.kept) != coded.kept {
+            return fail("other words in the encoder's copy");
+        }
+        if reply.number != 0 && ours.kept != before {
+            return fail("refused, and a word is another");
+        }
+        strange_standing(&ours.kept, &coded.kept, event.slot)?;
+        tally.strange_refused += u64::from(reply.number != 0);
+        tally.strange += 1;
+        before.clone_from(&ours.kept);
+    }
+    match ours.whole() && second.whole() && coded.whole() {
+        true => Ok(()),
+        false => Err("strange words: a word beside the record is another".to_string()),
+    }
+}
+
+/// The standing is that of the encoder's words.
+fn strange_standing(ours: &Kept, coded: &Kept, slot: u8) -> Result<(), String> {
+    let mut out = [[0; STANDING]; 2];
+    let replies = [
+        ours.standing(slot, &mut out[0]),
+        coded.standing(slot, &mut out[1]),
+    ];
+    match replies[0] == replies[1] && out[0] == out[1] {
+        true => Ok(()),
+        false => Err(format!("strange words, slot {slot}: {replies:?}")),
+    }
+}
