@@ -28,11 +28,11 @@ pub fn sent_in(t: [u64; 4]) -> Sent
 }
 
 // A length with its mark.
-fn marked(len: u64, used: bool) -> u64
-    requires { ⌜ len < 65536 ⌝ }
-    ensures { λ r. ⌜ r ≡ len + cond used 65536 0 ⌝ }
+fn marked(len: u16, used: bool) -> u64
+    ensures { λ r. ⌜ (r ≡ len + cond used 65536 0) × (len < 65536) ⌝ }
 {
-    if used { len + 65536 } else { len }
+    let n = wide_len(len);
+    if used { n + 65536 } else { n }
 }
 
 // The row that says a probe.
@@ -40,8 +40,7 @@ pub fn sent_row(s: Sent) -> [u64; 4]
     ensures { λ r. ⌜ (r ≡ sentRow s) × (sentIn r ≡ s) ⌝ }
 {
     let id = wide(s.probe_id);
-    let len = wide_len(s.len);
-    let end = marked(len, s.used);
+    let end = marked(s.len, s.used);
     [s.at, s.due, id, end]
 }
 
