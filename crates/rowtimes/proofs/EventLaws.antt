@@ -1,16 +1,20 @@
 -- What the stores of each event on round trips, ETX and data leave.
 -- Assumes nothing.
 use Prim.Native.Nat.{ℕ, _+_, _<_, _≤_, _%_, _^_}
-use mathlib.Core.Path.{_≡_, refl, ap, _∙_}
-use mathlib.Core.Bool.{Bool}
+use mathlib.Core.Path.{_≡_, refl, ap, sym, _∙_}
+use mathlib.Core.Bool.{Bool, true, false}
 use mathlib.Core.List.{List}
 use borrow.Author.Tests.{lt-ltb, le-ltb, le-leb, lt-leb}
 use lib.Ieee.{Float}
+use lib.ListN.{getD, set}
 use Rattle.base.specs.declared.types.MaybeTime.the-variants as time
 use Rattle.etx.specs.Etx.{foldOf}
-use Rattle.rtt.specs.Rtts.{sampledRtts}
+use Rattle.rtt.specs.Samples.{keptSamples, samplePlace, newSample, withSample}
+use Rattle.rtt.specs.Spans.{noSpan, keptSpans, newestSpan, spanPlace, joinsOf, joinedOf, newSpan, openedOf, enteredOf}
+use Rattle.rtt.specs.Spans.{spanOf}
+use Rattle.rtt.specs.declared.types.Span.{Span}
 use Rattle.rtt.specs.declared.types.Rtts.{Rtts}
-use Rattle.live.specs.Path.{withRtts, withTraffic, withEtx}
+use Rattle.live.specs.Path.{withTraffic, withEtx}
 use Rattle.live.specs.Times.{sampleOf, foldedOf, heardOf, carriedOf}
 use Rattle.live.specs.declared.types.Liveness.{Liveness}
 use Rattle.live.specs.declared.types.Traffic.{Traffic}
@@ -78,13 +82,66 @@ fold-made {a} {b} on e f w =
 pub rtts-made : {r : Rtts} (x : Rtts) → r .samples ≡ x .samples → r .spans ≡ x .spans → r .rtt ≡ x .rtt → r ≡ x
 rtts-made x e f g = λ j. record { samples = e j; spans = f j; rtt = g j }
 
--- and stored part by part
-pub rtts-stored : {a b c d : List (List ℕ)} (r : Rtts) → Says a b (withSamples (pathIn a) (r .samples))
-    → Says b c (withSpans (pathIn b) (r .spans)) → Says c d (withTrip (pathIn c) (r .rtt))
-    → Says a d (withRtts (pathIn a) r)
-rtts-stored r u v w =
-    says-as (says-then (says-then u v) w)
-    (ap (λ (z : Liveness). withTrip z (r .rtt)) (v .path ∙ ap (λ (z : Liveness). withSpans z (r .spans)) (u .path)))
+-- the samples: those older than the window dropped, then one more stored
+pub window-made : {a b c : List (List ℕ)} (now x window : ℕ) {slot : ℕ}
+    → Says a b (withSamples (pathIn a) (keptSamples now window (pathIn a .rtts .samples)))
+    → slot ≡ samplePlace (pathIn b .rtts .samples)
+    → Says b c (withSamples (pathIn b) (set (pathIn b .rtts .samples) slot (newSample now x)))
+    → Says a c (withSamples (pathIn a) (withSample now x window (pathIn a .rtts .samples)))
+unfolding withSample
+window-made {a} {b} {c} now x window {slot} u e v =
+    let f : pathIn b .rtts .samples ≡ keptSamples now window (pathIn a .rtts .samples) =
+    ap (λ (z : Liveness). z .rtts .samples) (u .path) in
+    says-as (says-then u v)
+    (ap (λ (z : Liveness). withSamples z (set (pathIn b .rtts .samples) slot (newSample now x))) (u .path)
+    ∙ (λ j. withSamples (pathIn a) (set (f j) ((e ∙ ap samplePlace f) j) (newSample now x))))
+
+-- a span opened
+pub span-opened : {a b : List (List ℕ)} (now x : ℕ) {slot : ℕ} → slot ≡ spanPlace (pathIn a .rtts .spans)
+    → Says a b (withSpans (pathIn a) (set (pathIn a .rtts .spans) slot (newSpan now x)))
+    → Says a b (withSpans (pathIn a) (openedOf now x (pathIn a .rtts .spans)))
+span-opened {a} {b} now x e u =
+    says-as u (ap (λ (k : ℕ). withSpans (pathIn a) (set (pathIn a .rtts .spans) k (newSpan now x))) e)
+
+module _ {a b : List (List ℕ)} (now x horizon : ℕ) {slot : ℕ} {s : Span}
+    (u : Says a b (withSpans (pathIn a) (keptSpans now horizon (pathIn a .rtts .spans))))
+    (e : slot ≡ newestSpan (pathIn b .rtts .spans)) (g : s ≡ getD (pathIn b .rtts .spans) slot noSpan) where
+  -- the spans after those past the horizon were dropped
+  left : pathIn b .rtts .spans ≡ keptSpans now horizon (pathIn a .rtts .spans)
+  left = ap (λ (z : Liveness). z .rtts .spans) (u .path)
+
+  -- the newest
+  there : s ≡ getD (pathIn b .rtts .spans) (newestSpan (pathIn b .rtts .spans)) noSpan
+  there = g ∙ ap (λ (k : ℕ). getD (pathIn b .rtts .spans) k noSpan) e
+
+  -- the spans after one more sample
+  entered : {l : List Span} → l ≡ enteredOf now x horizon (pathIn b .rtts .spans)
+      → l ≡ spanOf now x horizon (pathIn a .rtts .spans)
+  unfolding spanOf
+  entered f = f ∙ ap (enteredOf now x horizon) left
+
+  -- the sample joins the newest
+  pub span-joined : {c : List (List ℕ)} {t : Span} → joinsOf now horizon s ≡ true → t ≡ joinedOf now x s
+      → Says b c (withSpans (pathIn b) (set (pathIn b .rtts .spans) slot t))
+      → Says a c (withSpans (pathIn a) (spanOf now x horizon (pathIn a .rtts .spans)))
+  span-joined {c} {t} q f v =
+      let m : List Span = set (pathIn b .rtts .spans) slot t in
+      let w : m ≡ enteredOf now x horizon (pathIn b .rtts .spans) =
+      rw (ap (joinsOf now horizon) (sym there) ∙ q)
+      (λ j. set (pathIn b .rtts .spans) (e j) ((f ∙ ap (joinedOf now x) there) j)) in
+      says-as (says-then u v)
+      (ap (λ (z : Liveness). withSpans z m) (u .path) ∙ ap (withSpans (pathIn a)) (entered w))
+
+  -- or opens a span
+  pub span-started : {c : List (List ℕ)} → joinsOf now horizon s ≡ false
+      → Says b c (withSpans (pathIn b) (openedOf now x (pathIn b .rtts .spans)))
+      → Says a c (withSpans (pathIn a) (spanOf now x horizon (pathIn a .rtts .spans)))
+  span-started q v =
+      let m : List Span = openedOf now x (pathIn b .rtts .spans) in
+      let w : m ≡ enteredOf now x horizon (pathIn b .rtts .spans) =
+      rw (ap (joinsOf now horizon) (sym there) ∙ q) refl in
+      says-as (says-then u v)
+      (ap (λ (z : Liveness). withSpans z m) (u .path) ∙ ap (withSpans (pathIn a)) (entered w))
 
 module _ (a : List (List ℕ)) (now x window horizon : ℕ) where
   -- an endless round trip
@@ -106,14 +163,18 @@ module _ (a : List (List ℕ)) (now x window horizon : ℕ) where
   sample-horizon h k l =
       turns-none refl (rw (lt-leb (2 ^ 62) x h, lt-leb (2 ^ 62) window k, le-leb (2 ^ 62) horizon l) refl)
 
-  -- a round trip that is recorded
-  pub sample-made : {b : List (List ℕ)} {r s : Rtts} → x < 2 ^ 62 → window < 2 ^ 62 → horizon < 2 ^ 62
-      → r ≡ pathIn a .rtts → s ≡ sampledRtts r now x window horizon → Says a b (withRtts (pathIn a) s)
-      → Turns a b reply.Nothing (turn (slotIn a) (sampleOf (pathIn a) now x window horizon .path) reply.Nothing)
+  -- a round trip that is recorded: among the samples, in a span, as the latest
+  pub sample-made : {b c d : List (List ℕ)} → x < 2 ^ 62 → window < 2 ^ 62 → horizon < 2 ^ 62
+      → Says a b (withSamples (pathIn a) (withSample now x window (pathIn a .rtts .samples)))
+      → Says b c (withSpans (pathIn b) (spanOf now x horizon (pathIn b .rtts .spans)))
+      → Says c d (withTrip (pathIn c) (time.Some x))
+      → Turns a d reply.Nothing (turn (slotIn a) (sampleOf (pathIn a) now x window horizon .path) reply.Nothing)
   unfolding sampleOf
-  sample-made h k l e f w =
+  sample-made h k i u v w =
       turns-by
-      (says-as w
-      (rw (lt-leb (2 ^ 62) x h, lt-leb (2 ^ 62) window k, lt-leb (2 ^ 62) horizon l)
-      (ap (withRtts (pathIn a)) (f ∙ ap (λ (z : Rtts). sampledRtts z now x window horizon) e))))
-      refl refl
+      (says-as (says-then (says-then u v) w)
+      (rw (lt-leb (2 ^ 62) x h, lt-leb (2 ^ 62) window k, lt-leb (2 ^ 62) horizon i)
+      (ap (λ (z : Liveness). withTrip z (time.Some x))
+      (v .path ∙ ap (λ (z : Liveness). withSpans z (spanOf now x horizon (z .rtts .spans))) (u .path)))))
+      refl
+      refl

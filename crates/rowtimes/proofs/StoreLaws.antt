@@ -1,24 +1,30 @@
--- A list of a path loaded from its rows and stored to them, place by place; and a fold over such a list.
+-- A list of a path read from its rows, and changed in them, place by place.
 -- Assumes nothing.
 use Prim.Native.Nat.{ℕ, suc, _+_, _<_, _≤_}
 use mathlib.Core.Path.{_≡_, refl, ap, sym, _∙_}
-use mathlib.Core.Bool.{Bool, true, false}
-use mathlib.Core.List.{List, [], _∷_, _++_}
+use mathlib.Core.Bool.{Bool, true, false, not, cond}
+use mathlib.Core.List.{List, [], _∷_, _++_, map}
 use native.Mathlib.Omega.{arith}
 use native.Mathlib.Numerals.{add-one}
-use lib.ListN.{length, getD, set, take, length-set}
-use lib.Seq.{take-suc, take-all, take-suc-set}
+use lib.ListN.{length, getD, set, take, drop, length-set, length-map}
+use lib.Seq.{take-suc, take-all, take-suc-set, drop-cons, getD-at, set-getD, length-take-le}
 use Rattle.base.specs.declared.types.MaybeTime.{MaybeTime}
 use Rattle.base.specs.declared.types.MaybeTime.the-variants.{None}
-use Rattle.base.specs.Passes.{lowerOf}
-use Rattle.base.proofs.ScanLaws.{Folding, folding-take, folding-skip}
+use Rattle.base.specs.Marked.{firstGap, firstLeader, place}
+use Rattle.base.specs.Passes.{lowerOf, overtakes, catches}
+use Rattle.base.specs.Seq.{position}
+use Rattle.base.proofs.FirstLaws.{Strict}
+use Rattle.base.proofs.MarkedLaws.{LeadsFirst, LeadsLast, first-take, first-skip, last-take, last-skip}
+use Rattle.base.proofs.MarkedLaws.{place-gap, place-leader}
+use Rattle.base.proofs.ScanLaws.{Mapping, mapping-start, mapping-next, mapping-end, Folding, folding-take, folding-skip}
+use Rattle.base.proofs.SeqLaws.{Searched, searched-here, searched-next}
 use Rattle.live.specs.declared.types.Liveness.{Liveness}
 use Rattle.rows.specs.Parts.{withSamples, withSpans}
 use Rattle.rows.specs.View.{pathIn}
 use Rattle.rows.specs.Says.{Says}
 use Rattle.rows.proofs.SaysLaws.{says-none, says-then, says-as}
 
--- ---- one list stored over another
+-- ---- one list loaded into another
 
 -- the first i places of q are those of l, both of n places
 pub record Filling {A : Type 0} (l : List A) (n : ℕ) (q : List A) (i : ℕ) : Type 0 where
@@ -49,7 +55,7 @@ module _ {A : Type 0} {l : List A} {n : ℕ} {q : List A} where
   filling-end {i} s h =
       sym (take-all i q (omega (arith, s .long))) ∙ s .done ∙ take-all i l (omega (arith, s .from))
 
--- ---- a list of a path stored in its rows
+-- ---- places of a list cleared in its rows
 
 -- a part of a path that can be read and changed
 pub record Part {A : Type 0} (get : Liveness → A) (put : Liveness → A → Liveness) : Type 0 where
@@ -65,47 +71,125 @@ samples-part = record { same = λ v. refl; new = λ v x. refl; last = λ v x y. 
 pub spans-part : Part (λ v. v .rtts .spans) withSpans
 spans-part = record { same = λ v. refl; new = λ v x. refl; last = λ v x y. refl }
 
--- from rows a to rows b the first i of n places of the part have become those of l, and nothing else has changed
-pub record Storing {A : Type 0} (get : Liveness → List A) (put : Liveness → List A → Liveness) (l : List A) (n : ℕ)
-    (a b : List (List ℕ)) (i : ℕ) : Type 0 where
-  pub says : Says a b (put (pathIn a) (get (pathIn b)))
-  pub fill : Filling l n (get (pathIn b)) i
+-- a place not yet passed is what it was
+mapped-at : {A : Type 0} {f : A → A} {l : List A} {n : ℕ} {out : List A} {i : ℕ} (d : A) → Mapping f l n out i → i < n
+    → getD out i d ≡ getD l i d
+mapped-at {A} {f} {l} {n} {out} {i} d s h =
+    let m : length (map f (take i l)) ≡ i = rw (length-map, length-take-le i l (omega (arith, s .long))) in
+    ap (λ (x : List A). getD x i d)
+    (s .done ∙ ap (λ (x : List A). map f (take i l) ++ x) (drop-cons l i d (omega (arith, s .long))))
+    ∙ getD-at (map f (take i l)) (getD l i d) (drop (suc i) l) d i m
 
-module _ {A : Type 0} {get : Liveness → List A} {put : Liveness → List A → Liveness} {l : List A} {n : ℕ}
+-- what passes the test is cleared
+abbrev cleared : {A : Type 0} → (A → Bool) → A → A → A
+cleared t z x = cond (t x) z x
+
+-- from rows a to rows b those of the first i of the part's n places that pass the test t have become z, and nothing
+-- else has changed
+pub record Dropping {A : Type 0} (get : Liveness → List A) (put : Liveness → List A → Liveness) (t : A → Bool) (z : A)
+    (n : ℕ) (a b : List (List ℕ)) (i : ℕ) : Type 0 where
+  pub says : Says a b (put (pathIn a) (get (pathIn b)))
+  pub maps : Mapping (cleared t z) (get (pathIn a)) n (get (pathIn b)) i
+
+module _ {A : Type 0} {get : Liveness → List A} {put : Liveness → List A → Liveness} {t : A → Bool} {z : A} {n : ℕ}
     {a : List (List ℕ)} (part : Part get put) where
   -- before the first
-  pub storing-start : length l ≡ n → length (get (pathIn a)) ≡ n → Storing get put l n a a 0
-  storing-start h k = record { says = says-none (part .same (pathIn a)); fill = filling-start h k }
+  pub dropping-start : length (get (pathIn a)) ≡ n → Dropping get put t z n a a 0
+  dropping-start h = record { says = says-none (part .same (pathIn a)); maps = mapping-start h refl }
 
-  -- one more
-  pub storing-next : {b c : List (List ℕ)} {i : ℕ} (d : A) → Storing get put l n a b i → i < n
-      → Says b c (put (pathIn b) (set (get (pathIn b)) i (getD l i d))) → Storing get put l n a c (i + 1)
-  storing-next {b} {c} {i} d s h w =
-      let x : List A = set (get (pathIn b)) i (getD l i d) in
-      let q : get (pathIn c) ≡ x = ap get (w .path) ∙ part .new (pathIn b) x in
-      record {
-        says =
-            says-as (says-then (s .says) w)
-            (ap (λ (v : Liveness). put v x) (s .says .path)
-            ∙ part .last (pathIn a) (get (pathIn b)) x
-            ∙ ap (put (pathIn a)) (sym q));
-        fill = rw q (filling-next d (s .fill) h refl);
-      }
+  module _ {b : List (List ℕ)} {i : ℕ} (d : A) {s : A} (w : Dropping get put t z n a b i) (h : i < n)
+      (e : s ≡ getD (get (pathIn b)) i d) where
+    -- what stood there
+    stood : s ≡ getD (get (pathIn a)) i d
+    stood = e ∙ mapped-at d (w .maps) h
+
+    -- one that is cleared
+    pub dropping-take : {c : List (List ℕ)} {v : A} → t s ≡ true → v ≡ z
+        → Says b c (put (pathIn b) (set (get (pathIn b)) i v)) → Dropping get put t z n a c (i + 1)
+    dropping-take {c} {v} q m u =
+        let x : List A = set (get (pathIn b)) i v in
+        let y : get (pathIn c) ≡ x = ap get (u .path) ∙ part .new (pathIn b) x in
+        let g : cleared t z s ≡ z = rw q in
+        record {
+          says =
+              says-as (says-then (w .says) u)
+              (ap (λ (r : Liveness). put r x) (w .says .path)
+              ∙ part .last (pathIn a) (get (pathIn b)) x
+              ∙ ap (put (pathIn a)) (sym y));
+          maps = rw y (mapping-next d (w .maps) h (m ∙ sym g ∙ ap (cleared t z) stood));
+        }
+
+    -- one that stays
+    pub dropping-skip : t s ≡ false → Dropping get put t z n a b (i + 1)
+    dropping-skip q =
+        let g : cleared t z s ≡ s = rw q in
+        let v : getD (get (pathIn b)) i d ≡ cleared t z (getD (get (pathIn a)) i d) =
+        sym e ∙ sym g ∙ ap (cleared t z) stood in
+        record {
+          says = w .says;
+          maps =
+              rw (sym (set-getD (get (pathIn b)) i d)) (mapping-next d (w .maps) h v);
+        }
 
   -- all of them
-  pub storing-end : {b : List (List ℕ)} {i : ℕ} → Storing get put l n a b i → n ≤ i → Says a b (put (pathIn a) l)
-  storing-end s h = says-as (s .says) (ap (put (pathIn a)) (filling-end (s .fill) h))
+  pub dropping-end : {b : List (List ℕ)} {i : ℕ} → Dropping get put t z n a b i → n ≤ i
+      → Says a b (put (pathIn a) (map (cleared t z) (get (pathIn a))))
+  dropping-end w h = says-as (w .says) (ap (put (pathIn a)) (mapping-end (w .maps) h))
 
--- ---- the least of a list whose places are read one by one
+-- ---- passes over a list whose places are read one by one: s is the place's
+
+module _ {A : Type 0} {p : A → Bool} {l : List A} {n i : ℕ} (d : A) {s : A} where
+  -- a search that ends here
+  pub seen-here : Searched p l n i → i < n → s ≡ getD l i d → p s ≡ true → i ≡ position p l
+  seen-here w h e q = searched-here d w h (ap p (sym e) ∙ q)
+
+  -- and one that goes on
+  pub seen-next : Searched p l n i → i < n → s ≡ getD l i d → p s ≡ false → Searched p l n (i + 1)
+  seen-next w h e q = searched-next d w h (ap p (sym e) ∙ q)
 
 module _ {A : Type 0} {p : A → Bool} {g : A → ℕ} {l : List A} {n i : ℕ} {b : MaybeTime} (d : A) {s : A} where
-  -- a place that counts
+  -- one that counts for the least
   pub least-take : {v : MaybeTime} → Folding p g lowerOf None l n b i → i < n → s ≡ getD l i d → p s ≡ true
       → v ≡ lowerOf b (g s) → Folding p g lowerOf None l n v (i + 1)
-  least-take w h e q m =
-      folding-take d w h (ap p (sym e) ∙ q) (m ∙ ap (λ (x : A). lowerOf b (g x)) e)
+  least-take w h e q m = folding-take d w h (ap p (sym e) ∙ q) (m ∙ ap (λ (x : A). lowerOf b (g x)) e)
 
-  -- a gap
+  -- and a gap
   pub least-skip : Folding p g lowerOf None l n b i → i < n → s ≡ getD l i d → p s ≡ false
       → Folding p g lowerOf None l n b (i + 1)
   least-skip w h e q = folding-skip d w h (ap p (sym e) ∙ q)
+
+module _ {A : Type 0} {held : A → Bool} {before : A → A → Bool} {d : A} {l : List A} {n : ℕ} (order : Strict before)
+    {b : A} {k i : ℕ} {s : A} where
+  -- one that leads those before it, of equals the first
+  pub leads-take : LeadsFirst held before d l n b k i → i < n → s ≡ getD l i d → overtakes held before s b ≡ true
+      → LeadsFirst held before d l n s i (i + 1)
+  leads-take w h e q =
+      rw e (first-take order w h (ap (λ (x : A). overtakes held before x b) (sym e) ∙ q))
+
+  -- and one that does not
+  pub leads-skip : LeadsFirst held before d l n b k i → i < n → s ≡ getD l i d → overtakes held before s b ≡ false
+      → LeadsFirst held before d l n b k (i + 1)
+  leads-skip w h e q = first-skip order w h (ap (λ (x : A). overtakes held before x b) (sym e) ∙ q)
+
+  -- one that leads those before it, of equals the last
+  pub trails-take : LeadsLast held before d l n b k i → i < n → s ≡ getD l i d → catches held before s b ≡ true
+      → LeadsLast held before d l n s i (i + 1)
+  trails-take w h e q =
+      rw e (last-take order w h (ap (λ (x : A). catches held before x b) (sym e) ∙ q))
+
+  -- and one that does not
+  pub trails-skip : LeadsLast held before d l n b k i → i < n → s ≡ getD l i d → catches held before s b ≡ false
+      → LeadsLast held before d l n b k (i + 1)
+  trails-skip w h e q = last-skip order w h (ap (λ (x : A). catches held before x b) (sym e) ∙ q)
+
+-- ---- the place for a new one
+
+module _ {A : Type 0} (held : A → Bool) (before : A → A → Bool) (l : List A) {n g : ℕ} (long : length l ≡ n)
+    (e : g ≡ firstGap held l) where
+  -- a gap
+  pub place-free : g < n → g ≡ place held before l
+  place-free h = place-gap held before l e (omega (arith, long))
+
+  -- no gap
+  pub place-full : {k : ℕ} → n ≤ g → k ≡ firstLeader held before l → k ≡ place held before l
+  place-full h f = place-leader held before l (omega (arith, long, e)) f

@@ -4,7 +4,6 @@ ghost use Rattle.rules.specs.Rules.{turn};
 ghost use Rattle.rules.specs.declared.types.Reply.the-variants.{Nothing};
 ghost use Rattle.rows.specs.View.{pathIn, slotIn};
 ghost use Rattle.rows.specs.Says.{Turns};
-use crate::trips::*;
 use base::limits::*;
 use base::types::*;
 use live::types::Traffic;
@@ -12,7 +11,9 @@ use rows::measures::*;
 use rows::probes::ROWS;
 use rules::types::*;
 
+pub mod horizon;
 pub mod trips;
+pub mod window;
 
 // Data: heard, then carried; a frame that is too long is carried and not counted.
 pub fn received(p: &mut [[u64; 4]; ROWS], e: Event) -> Reply
@@ -68,8 +69,9 @@ pub fn sample(p: &mut [[u64; 4]; ROWS], e: Event, window: u64, horizon: u64) -> 
     if DURATION_END <= horizon {
         return Reply::Nothing;
     }
-    let old = rtts(p);
-    let measured = rtt::rtts::sample(old, e.now, trip, window, horizon);
-    set_rtts(p, measured);
+    crate::window::enter(p, e.now, trip, window);
+    crate::horizon::enter(p, e.now, trip, horizon);
+    let last = MaybeTime::Some(trip);
+    set_trip(p, last);
     Reply::Nothing
 }

@@ -1,11 +1,8 @@
-// The round trips in a slot's rows: loaded and stored whole, and the least of the window and of the horizon, in place.
+// The round trips in a slot's rows: loaded whole, and the least of the window and of the horizon, in place.
 ghost use mathlib.Core.Path.{_≡_};
 ghost use Rattle.rtt.specs.Samples.{minRtt};
 ghost use Rattle.rtt.specs.Spans.{baseRtt};
-ghost use Rattle.live.specs.Path.{withRtts};
-ghost use Rattle.rows.specs.Parts.{withSamples, withSpans};
 ghost use Rattle.rows.specs.View.{pathIn};
-ghost use Rattle.rows.specs.Says.{Says};
 use base::time::lower;
 use base::types::MaybeTime;
 use rows::measures::*;
@@ -56,44 +53,6 @@ pub fn rtts(p: &[[u64; 4]; ROWS]) -> Rtts
         spans: spans,
         rtt: last,
     }
-}
-
-// Stores the samples of the window.
-fn set_samples(p: &mut [[u64; 4]; ROWS], l: [Sample; SAMPLES])
-    ensures { λ r. ⌜ Says (now (p .entry)) (now (p .exit)) (withSamples (pathIn (now (p .entry))) l) ⌝ }
-{
-    rows(p);
-    let mut i: usize = 0;
-    while i < SAMPLES {
-        let s = l[i];
-        set_sample(p, i, s);
-        i += 1;
-    }
-}
-
-// Stores the spans of the horizon.
-fn set_spans(p: &mut [[u64; 4]; ROWS], l: [Span; SPANS])
-    ensures { λ r. ⌜ Says (now (p .entry)) (now (p .exit)) (withSpans (pathIn (now (p .entry))) l) ⌝ }
-{
-    rows(p);
-    let mut i: usize = 0;
-    while i < SPANS {
-        let s = l[i];
-        set_span(p, i, s);
-        i += 1;
-    }
-}
-
-// Stores what has been measured.
-pub fn set_rtts(p: &mut [[u64; 4]; ROWS], r: Rtts)
-    ensures { λ x. ⌜ Says (now (p .entry)) (now (p .exit)) (withRtts (pathIn (now (p .entry))) r) ⌝ }
-{
-    let samples = r.samples;
-    let spans = r.spans;
-    let last = r.rtt;
-    set_samples(p, samples);
-    set_spans(p, spans);
-    set_trip(p, last);
 }
 
 // The least round trip among the window's samples.

@@ -9,7 +9,7 @@ use crate::types::Span;
 use base::types::MaybeTime;
 
 // Whether a span's latest sample is older than the horizon.
-fn is_past(s: Span, now: u64, horizon: u64) -> bool
+pub fn is_past(s: Span, now: u64, horizon: u64) -> bool
     ensures { λ r. ⌜ r ≡ isPast now horizon s ⌝ }
 {
     s.used & (horizon < base::time::elapsed(now, s.to))
@@ -55,7 +55,7 @@ fn first_gap(spans: [Span; SPANS]) -> usize
 }
 
 // Whether a span takes the place of the oldest found so far: of equals the first stays.
-fn older(s: Span, oldest: Span) -> bool
+pub fn older(s: Span, oldest: Span) -> bool
     ensures { λ r. ⌜ r ≡ overtakes isSpan spanEarlier s oldest ⌝ }
 {
     s.used & (!oldest.used | (s.from < oldest.from))
@@ -81,7 +81,7 @@ fn oldest(spans: [Span; SPANS]) -> usize
 }
 
 // Whether a span takes the place of the newest found so far: of equals the last does.
-fn newer(s: Span, newest: Span) -> bool
+pub fn newer(s: Span, newest: Span) -> bool
     ensures { λ r. ⌜ r ≡ catches isSpan spanLater s newest ⌝ }
 {
     s.used & (!newest.used | (newest.from <= s.from))
@@ -118,14 +118,14 @@ fn place(spans: [Span; SPANS]) -> usize
 }
 
 // Whether a sample at `now` is within the width of the span.
-fn joins(s: Span, now: u64, horizon: u64) -> bool
+pub fn joins(s: Span, now: u64, horizon: u64) -> bool
     ensures { λ r. ⌜ r ≡ joinsOf now horizon s ⌝ }
 {
     s.used & (base::time::elapsed(now, s.from) < horizon / 6)
 }
 
 // The span with one more sample.
-fn joined(s: Span, now: u64, rtt: u64) -> Span
+pub fn joined(s: Span, now: u64, rtt: u64) -> Span
     ensures { λ r. ⌜ r ≡ joinedOf now rtt s ⌝ }
 {
     Span {

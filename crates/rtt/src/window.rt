@@ -9,7 +9,7 @@ use crate::types::Sample;
 use base::types::MaybeTime;
 
 // Whether a sample is older than the window.
-fn is_old(s: Sample, now: u64, window: u64) -> bool
+pub fn is_old(s: Sample, now: u64, window: u64) -> bool
     ensures { λ r. ⌜ r ≡ isOld now window s ⌝ }
 {
     s.used & (window < base::time::elapsed(now, s.at))
@@ -55,7 +55,7 @@ fn first_gap(rtts: [Sample; SAMPLES]) -> usize
 }
 
 // Whether a sample takes the place of the oldest found so far: of equals the first stays.
-fn older(s: Sample, oldest: Sample) -> bool
+pub fn older(s: Sample, oldest: Sample) -> bool
     ensures { λ r. ⌜ r ≡ overtakes isSample sampleEarlier s oldest ⌝ }
 {
     s.used & (!oldest.used | (s.at < oldest.at))

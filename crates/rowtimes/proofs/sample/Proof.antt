@@ -14,17 +14,17 @@ returns-2 c = sample-window _ _ _ _ _ (c .before .if1 .left) (c .if2 .taken)
 returns-3 : tie.Need-returns-3
 returns-3 c = sample-horizon _ _ _ _ _ (c .before .before .if1 .left) (c .before .if2 .left) (c .if3 .taken)
 
-rtts-requires : tie.Need-rtts-requires
-rtts-requires c κs = search needs
+enter-requires : tie.Need-enter-requires
+enter-requires c κs = search needs
 
-sample-requires : tie.Need-sample-requires
-sample-requires c κs = search needs
+enter-requires-2 : tie.Need-enter-requires-2
+enter-requires-2 c κs = search needs
 
-set-rtts-requires : tie.Need-set-rtts-requires
-set-rtts-requires c κs = search needs
+set-trip-requires : tie.Need-set-trip-requires
+set-trip-requires c κs = search needs
 
 returns-4 : tie.Need-returns-4
-returns-4 c = sample-made _ _ _ _ _ (c .before .before .before .before .before .before .before .if1 .left) (c .before .before .before .before .before .before .if2 .left) (c .before .before .before .before .before .if3 .left) (c .before .before .before .rtts .ensures) (c .before .before .sample .ensures) (c .set-rtts .ensures)
+returns-4 c = sample-made _ _ _ _ _ (c .before .before .before .before .before .before .before .before .if1 .left) (c .before .before .before .before .before .before .before .if2 .left) (c .before .before .before .before .before .before .if3 .left) (c .before .before .before .before .enter .ensures) (c .before .before .enter2 .ensures) (c .set-trip .ensures)
 
 pub sample-spec : {M : Type 1} → statement M
 sample-spec =
@@ -33,7 +33,7 @@ sample-spec =
     returns
     returns-2
     returns-3
-    rtts-requires
-    sample-requires
-    set-rtts-requires
+    enter-requires
+    enter-requires-2
+    set-trip-requires
     returns-4)
