@@ -21,11 +21,10 @@ use Rattle.eventfile.specs.declared.types.Parse.the-variants as parse
 use Rattle.lines.specs.Text.{lineOf, written}
 use Rattle.lines.proofs.TextLaws.{line-few}
 use Rattle.pathrun.specs.Lines.{numberAfter}
-use Rattle.pathrun.specs.Sessions.{Ran, overOf, callEnd, eventLine, ranBy, ranFrom, ranIn, ranOf, lastOf, partOf}
+use Rattle.pathrun.specs.Sessions.{Session, Run, Ran, overOf, callEnd, eventLine}
+use Rattle.pathrun.specs.Sessions.{ranBy, ranFrom, ranIn, ranOf, lastIn, partOf}
 use Rattle.pathrun.specs.declared.types.Phase.{Phase}
 use Rattle.pathrun.specs.declared.types.Phase.the-variants as phase
-use Rattle.pathrun.specs.declared.types.Run.{Run}
-use Rattle.pathrun.specs.declared.types.Session.{Session}
 use Rattle.pathrun.proofs.SessionLaws.{told}
 
 -- ---- a part of the lent bytes
@@ -153,12 +152,13 @@ module _ (s : Session) (p n : ℕ) (l o : List ℕ) {from to : ℕ} {m : List �
       let g : length m ≡ length o = ap (λ (z : List ℕ). length z) (c .1) ∙ over-long (x .text) o in
       (omega (arith, w, g, f .1), omega (arith, q, f .0, part-few p n l .0))
 
-  pub finish-is : {r : ℕ}
-      → (r ≡ written (lastOf s (partOf from to l)) o) × (m ≡ over (lastOf s (partOf from to l)) o)
-      → (r ≡ written (lastOf s (partOf p n l)) o) × (m ≡ over (lastOf s (partOf p n l)) o)
-  finish-is d =
-      let e = part-is p n l h k in
-      (d .0 ∙ (λ j. written (lastOf s (e j)) o), d .1 ∙ (λ j. over (lastOf s (e j)) o))
+pub finish-is : (f : Phase) (i p n : ℕ) (l o : List ℕ) {from to r : ℕ} {m : List ℕ} → to ≡ min n (length l)
+    → from ≡ min p to
+    → (r ≡ written (lastIn f i (partOf from to l)) o) × (m ≡ over (lastIn f i (partOf from to l)) o)
+    → (r ≡ written (lastIn f i (partOf p n l)) o) × (m ≡ over (lastIn f i (partOf p n l)) o)
+finish-is f i p n l o h k d =
+    let e = part-is p n l h k in
+    (d .0 ∙ (λ j. written (lastIn f i (e j)) o), d .1 ∙ (λ j. over (lastIn f i (e j)) o))
 
 written-few : (b l : List ℕ) → written b l ≤ length l
 written-few b l =

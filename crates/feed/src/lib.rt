@@ -4,10 +4,13 @@ ghost use Prim.Native.Nat.{min, _-_, _≤_};
 ghost use lib.ListN.{length};
 ghost use Rattle.lines.specs.Text.{written};
 ghost use Rattle.octets.specs.Octets.{over};
-ghost use Rattle.pathrun.specs.Sessions.{partOf, linesIn, ranOf, lastOf};
+ghost use Rattle.pathrun.specs.Sessions.{partOf, linesIn, ranOf, lastIn};
+ghost use Rattle.pathrun.specs.Words.{sessionIn, Runs};
 ghost use Rattle.feed.specs.Feed.{isOver};
+use base::types::Refusal;
 use pathrun::types::*;
-use rules::types::*;
+use rows::probes::ROWS;
+use select::types::PATH_MAX_PER_PEER;
 
 // The lesser of two places, for a part that lies within the lent bytes whatever the places are.
 fn lesser(a: usize, b: usize) -> usize
@@ -17,26 +20,35 @@ fn lesser(a: usize, b: usize) -> usize
 }
 
 // A call on the bytes held. What it wrote stands in `out`, and what it read in the bytes held.
-pub fn call(session: Session, buf: &[u8], p: usize, n: usize, out: &mut [u8]) -> Run
-    ensures { λ r. ⌜ (r ≡ ranOf (linesIn (now (out .entry))) session (partOf p n (now (buf .entry))) .run)
-        × (now (out .exit) ≡ over
-        (ranOf (linesIn (now (out .entry))) session (partOf p n (now (buf .entry))) .text) (now (out .entry))) ⌝ }
+pub fn call(
+    t: &mut [u64; 4],
+    rec: &mut [[[u64; 4]; ROWS]; PATH_MAX_PER_PEER],
+    mark: Mark,
+    buf: &[u8],
+    p: usize,
+    n: usize,
+    out: &mut [u8],
+) -> Call
+    ensures { λ r. ⌜ Runs (now (t .exit)) (now (rec .exit)) r (now (out .entry)) (now (out .exit))
+        (ranOf (linesIn (now (out .entry))) (sessionIn (now (t .entry)) (now (rec .entry)) mark)
+        (partOf p n (now (buf .entry)))) ⌝ }
     ensures { λ r. ⌜ (r .wrote ≤ length (now (out .exit))) × (r .place ≤ n - p) ⌝ }
 {
     let to = lesser(n, buf.len());
     let from = lesser(p, to);
-    pathrun::session::step(session, &buf[from..to], out)
+    pathrun::session::step(t, rec, mark, &buf[from..to], out)
 }
 
 // The end of the input, with these bytes held; gives the bytes of the last line, which stand in `out`.
-pub fn finish(session: Session, buf: &[u8], p: usize, n: usize, out: &mut [u8]) -> usize
-    ensures { λ r. ⌜ (r ≡ written (lastOf session (partOf p n (now (buf .entry)))) (now (out .entry)))
-        × (now (out .exit) ≡ over (lastOf session (partOf p n (now (buf .entry)))) (now (out .entry))) ⌝ }
+pub fn finish(mark: Mark, buf: &[u8], p: usize, n: usize, out: &mut [u8]) -> usize
+    ensures { λ r. ⌜ (r ≡ written (lastIn (mark .phase) (mark .number) (partOf p n (now (buf .entry)))) (now (out .entry)))
+        × (now (out .exit) ≡ over
+        (lastIn (mark .phase) (mark .number) (partOf p n (now (buf .entry)))) (now (out .entry))) ⌝ }
     ensures { λ r. ⌜ r ≤ length (now (out .exit)) ⌝ }
 {
     let to = lesser(n, buf.len());
     let from = lesser(p, to);
-    pathrun::session::finish(session, &buf[from..to], out)
+    pathrun::session::finish(mark, &buf[from..to], out)
 }
 
 // Moves the bytes held to the front; gives how many there are, which is no more than `buf` has.

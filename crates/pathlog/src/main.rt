@@ -11,7 +11,8 @@ use libc::STDERR_FILENO;
 use libc::STDIN_FILENO;
 use libc::STDOUT_FILENO;
 use pathrun::types::*;
-use rules::types::*;
+use rows::probes::ROWS;
+use select::types::PATH_MAX_PER_PEER;
 
 // Bytes p to n of `buf` are held. Each turn is a call; one that did not stop for want of room is followed by a read.
 fn main() {
@@ -19,18 +20,22 @@ fn main() {
     let mut text = [0u8; 65536];
     let buf: &mut [u8] = &mut bytes;
     let out: &mut [u8] = &mut text;
-    let mut session = pathrun::session::begin();
+    let word = [0u64; 4];
+    let path = [word; ROWS];
+    let mut settings = [0u64; 4];
+    let mut rec = [path; PATH_MAX_PER_PEER];
+    let mut mark = pathrun::session::begin(&mut settings, &mut rec);
     let mut p: usize = 0;
     let mut n: usize = 0;
     // What ends must be seen to end: 2^64 - 1 turns are more than any input has.
     let mut turns: u64 = u64::MAX;
     while 0 < turns {
         turns = turns - 1;
-        let r = feed::call(session, buf, p, n, out);
+        let r = feed::call(&mut settings, &mut rec, mark, buf, p, n, out);
         let wrote = r.wrote;
-        let next = r.session;
+        let next = r.mark;
         let phase = next.phase;
-        session = next;
+        mark = next;
         p = std::num::wrapping_add_usize(p, r.place);
         if !io::write_all(STDOUT_FILENO, &out[0..wrote]) {
             break;
@@ -47,7 +52,7 @@ fn main() {
             p = 0;
             n = std::num::wrapping_add_usize(held, io::count(got, &buf[held..]));
             if n == held {
-                let last = feed::finish(session, buf, 0, n, out);
+                let last = feed::finish(mark, buf, 0, n, out);
                 let line = &out[..];
                 if io::write_all(STDOUT_FILENO, &line[0..last]) {
                     return;

@@ -7,9 +7,8 @@ use mathlib.Core.List.{List, [], _∷_, _++_, append-assoc, append-nil}
 use native.Mathlib.Omega.{arith}
 use lib.ListN.{length, drop, length-drop}
 use Rattle.base.proofs.Cases.{on-flag}
-use Rattle.pathrun.specs.Sessions.{begun, ranOf, lastOf}
+use Rattle.pathrun.specs.Sessions.{Session, begun, ranOf, lastOf}
 use Rattle.pathrun.specs.Portions.{Fed, writtenBefore, leftBy, calls, fed, joined, PortionsHold}
-use Rattle.pathrun.specs.declared.types.Session.{Session}
 use Rattle.pathrun.proofs.SessionLaws.{owed, told, lines-short}
 
 -- what calls wrote, and then what is owed for the bytes held and any after them, is what was owed; nothing whole is

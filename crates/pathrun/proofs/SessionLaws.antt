@@ -21,11 +21,10 @@ use Rattle.eventfile.specs.declared.types.Parse.{Parse}
 use Rattle.eventfile.specs.declared.types.Parse.the-variants as parse
 use Rattle.lines.specs.Text.{lineOf}
 use Rattle.pathrun.specs.Lines.{numberAfter, linesFrom, linesOf}
-use Rattle.pathrun.specs.Sessions.{sessionOf, overOf, Ran, callEnd, eventLine, stopLine, stopPhase}
+use Rattle.pathrun.specs.Sessions.{Session, sessionOf, overOf, Ran, callEnd, eventLine, stopLine, stopPhase}
 use Rattle.pathrun.specs.Sessions.{stopped, ranBy, ranFrom, ranSettings, ranIn, ranOf, lastBy, lastOf}
 use Rattle.pathrun.specs.declared.types.Phase.{Phase}
 use Rattle.pathrun.specs.declared.types.Phase.the-variants as phase
-use Rattle.pathrun.specs.declared.types.Session.{Session}
 use Rattle.eventfile.proofs.ReadLaws.{event-stays, refused-stays, parse-stands, parse-shift, Stands}
 use Rattle.pathrun.proofs.WalkLaws.{walkBy, walkAll, walk-is, walk-open, walk-drop}
 

@@ -14,17 +14,20 @@ use Rattle.rules.specs.Event.{numberOf}
 use Rattle.rules.specs.Step.{allowed, freshRecord, recordOf}
 use Rattle.rules.specs.declared.types.Settings.{Settings}
 use Rattle.rules.specs.declared.types.Record.{Record}
-use Rattle.rules.specs.declared.types.Stepped.{Stepped}
+use Rattle.rules.specs.declared.types.Reply.{Reply}
 use Rattle.rules.specs.declared.types.Reply.the-variants as reply
 use Rattle.eventfile.specs.File.{settingsOf}
+use Rattle.cells.specs.Code.{settingsRow}
+use Rattle.rowpeer.specs.Record.{recordIn, recordRows}
 use Rattle.lines.specs.Text.{lineOf, written}
 use Rattle.lines.proofs.TextLaws.{line-few, all-written}
-use Rattle.pathrun.specs.Sessions.{overOf, Ran, callEnd, stayed, ranFrom, ranIn, ranOf}
+use Rattle.pathrun.specs.Sessions.{Session, Run, sessionOf, overOf, Ran, callEnd, ranFrom, ranIn, ranOf}
+use Rattle.pathrun.specs.Words.{sessionIn, runIn, Runs, callAt, stayedAt}
 use Rattle.pathrun.specs.declared.types.Phase.{Phase}
 use Rattle.pathrun.specs.declared.types.Phase.the-variants as phase
-use Rattle.pathrun.specs.declared.types.Session.{Session}
-use Rattle.pathrun.specs.declared.types.Run.{Run}
-use Rattle.pathrun.proofs.StopLaws.{none-laid}
+use Rattle.pathrun.specs.declared.types.Mark.{Mark}
+use Rattle.pathrun.specs.declared.types.Call.{Call}
+use Rattle.pathrun.proofs.StopLaws.{none-laid, fresh-in}
 
 -- a call's answer and its text, where that is what the call gives
 pub step-as : (k : ℕ) (s : Session) (l o : List ℕ) {a : Ran} {r : Run} {m : List ℕ} → ranOf k s l ≡ a → r
@@ -33,10 +36,10 @@ pub step-as : (k : ℕ) (s : Session) (l o : List ℕ) {a : Ran} {r : Run} {m : 
 step-as k s l o e x y = (x ∙ (λ j. sym e j .run), y ∙ (λ j. over (sym e j .text) o))
 
 -- a call that writes nothing
-pub step-stay : (k : ℕ) (s : Session) (l o : List ℕ) (full : Bool) {r : Run} → ranOf k s l ≡ callEnd [] s 0 full
-    → r ≡ stayed s full
-    → (r ≡ ranOf k s l .run) × (o ≡ over (ranOf k s l .text) o)
-step-stay k s l o full e q = step-as k s l o e q (none-laid o .1)
+pub step-stay : (k : ℕ) (t : List ℕ) (a : List (List (List ℕ))) (m : Mark) (l o : List ℕ) (full : Bool) {r : Call}
+    → ranOf k (sessionIn t a m) l ≡ callEnd [] (sessionIn t a m) 0 full → r ≡ stayedAt m full
+    → Runs t a r o o (ranOf k (sessionIn t a m) l)
+step-stay k t a m l o full e q = step-as k (sessionIn t a m) l o e (ap (runIn t a) q) (none-laid o .1)
 
 -- no room for a line
 pub ran-small : (o : List ℕ) (s : Session) (l : List ℕ) → length o < 84 → ranOf (length o / 84) s l ≡ callEnd [] s 0 true
@@ -86,28 +89,43 @@ step-fresh o s l h e k y q d =
     step-as (length o / 84) s l o (ran-fresh o s l h e k y ∙ (λ j. ranFrom (length o / 84) l [] (sym q j) 1 32))
     (d .0) (d .1)
 
--- the line of settings that are too large
-pub step-large : (s : Session) (l o : List ℕ) {w : ℕ} {m : List ℕ} → 84 ≤ length o
-    → ranOf (length o / 84) s l ≡ callEnd (lineOf 0 0 6 0) (overOf s) 0 false → w ≡ written (lineOf 0 0 6 0) o
-    → m ≡ over (lineOf 0 0 6 0) o
-    → (_≡_ {A = Run} (record { session = overOf s; place = 0; wrote = w; full = false }) (ranOf
-    (length o / 84) s l .run))
-    × (m ≡ over (ranOf (length o / 84) s l .text) o)
-step-large s l o {w} {m} h e a b =
-    let n : w ≡ length (lineOf 0 0 6 0) = a ∙ all-written (lineOf 0 0 6 0) o (omega (arith, line-few 0 0 6 0)) in
-    step-as (length o / 84) s l o e (λ j. record { session = overOf s; place = 0; wrote = n j; full = false }) b
+-- the line of settings that are too large, with the words as they were
+pub step-large : (t : List ℕ) (a : List (List (List ℕ))) (m : Mark) (l o : List ℕ) {t′ : List ℕ}
+    {a′ : List (List (List ℕ))} {w : ℕ} {y : List ℕ} → 84 ≤ length o
+    → ranOf (length o / 84) (sessionIn t a m) l ≡ callEnd (lineOf 0 0 6 0) (overOf (sessionIn t a m)) 0 false
+    → t′ ≡ t → a′ ≡ a → w ≡ written (lineOf 0 0 6 0) o → y ≡ over (lineOf 0 0 6 0) o
+    → Runs t′ a′ (callAt (m .number) phase.Over 0 w false) o y (ranOf (length o / 84) (sessionIn t a m) l)
+step-large t a m l o {t′} {a′} {w} {y} h e p q x z =
+    let n : w ≡ length (lineOf 0 0 6 0) = x ∙ all-written (lineOf 0 0 6 0) o (omega (arith, line-few 0 0 6 0)) in
+    step-as (length o / 84) (sessionIn t a m) l o e
+    (λ j. record {
+      session = sessionOf phase.Over (recordIn (p j) (q j)) (m .number);
+      place = 0;
+      wrote = n j;
+      full = false;
+    })
+    z
 
 -- the settings that are allowed, by the answer of a record that is made from them
 number-by : (b : Bool) → eqb (numberOf (cond b reply.Nothing (reply.Refused refusal.Duration))) 0 ≡ b
 number-by true = refl
 number-by false = refl
 
-module _ (l : List ℕ) {t : Settings} {m : Stepped} {n : ℕ} (a : t ≡ settingsOf l) (q : m ≡ recordOf t) (e : n
-    ≡ numberOf (m .reply)) where
-  pub allowed-by : eqb n 0 ≡ allowed (settingsOf l)
-  unfolding recordOf
-  allowed-by = (λ j. eqb ((e ∙ (λ i. numberOf (q i .reply))) j) 0) ∙ number-by (allowed t) ∙ ap allowed a
+pub allowed-by : (l : List ℕ) {s : Settings} {x : Reply} {n : ℕ} → s ≡ settingsOf l → x ≡ recordOf s .reply
+    → n ≡ numberOf x → eqb n 0 ≡ allowed (settingsOf l)
+unfolding recordOf
+allowed-by l {s} {x} {n} p d e =
+    (λ j. eqb ((e ∙ (λ i. numberOf (d i))) j) 0) ∙ number-by (allowed s) ∙ ap allowed p
 
-  pub fresh-by : m .next ≡ freshRecord (settingsOf l)
-  unfolding recordOf
-  fresh-by = (λ j. q j .next) ∙ ap freshRecord a
+-- the words then say a new record, else they are as they were
+module _ (l : List ℕ) {s : Settings} {t : List ℕ} (t₀ : List ℕ) {a : List (List (List ℕ))} (a₀ : List (List (List ℕ)))
+    (p : s ≡ settingsOf l) where
+  pub fresh-by : allowed (settingsOf l) ≡ true → t ≡ cond (allowed s) (settingsRow s) t₀
+      → a ≡ cond (allowed s) (recordRows (freshRecord s)) a₀ → recordIn t a ≡ freshRecord (settingsOf l)
+  fresh-by y d f = fresh-in s t₀ a₀ (ap allowed p ∙ y) d f ∙ ap freshRecord p
+
+  pub kept-by : allowed (settingsOf l) ≡ false → t ≡ cond (allowed s) (settingsRow s) t₀
+      → a ≡ cond (allowed s) (recordRows (freshRecord s)) a₀ → (t ≡ t₀) × (a ≡ a₀)
+  kept-by y d f =
+      let z : allowed s ≡ false = ap allowed p ∙ y in
+      (d ∙ (λ j. cond (z j) (settingsRow s) t₀), f ∙ (λ j. cond (z j) (recordRows (freshRecord s)) a₀))

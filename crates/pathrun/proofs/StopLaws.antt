@@ -1,9 +1,8 @@
--- What the small functions of a run and of a session give: the line of an event, an answer that changes no slot, a
--- stop,
--- and the end of the input.
+-- What the small functions of a run and of a session give: the line of an event, a stop, a session that is begun, and
+-- the end of the input.
 -- Assumes nothing.
 use Prim.Native.Nat.{ℕ, _+_}
-use mathlib.Core.Path.{_≡_, sym, ap, _∙_}
+use mathlib.Core.Path.{_≡_, refl, sym, ap, _∙_}
 use mathlib.Core.Bool.{true, false, cond}
 use mathlib.Core.List.{List, [], _++_}
 use native.Mathlib.Omega.{arith}
@@ -15,26 +14,25 @@ use Rattle.base.specs.declared.types.Refusal.{Refusal}
 use Rattle.base.proofs.Cases.{cond-same}
 use Rattle.octets.specs.Octets.{over}
 use Rattle.octets.proofs.Fill.{over-fits}
-use Rattle.rules.specs.Rules.{emptySlot, onSlot}
-use Rattle.rules.specs.Step.{recordOf}
+use Rattle.rules.specs.Step.{allowed, freshRecord}
 use Rattle.rules.specs.declared.types.Settings.{Settings}
-use Rattle.rules.specs.declared.types.Slot.{Slot}
 use Rattle.rules.specs.declared.types.Event.{Event}
-use Rattle.rules.specs.declared.types.Reply.{Reply}
-use Rattle.rules.specs.declared.types.Turn.{Turn}
-use Rattle.rules.specs.declared.types.Stepped.{Stepped}
-use Rattle.choosing.specs.Choosing.{chosenOf}
+use Rattle.cells.specs.Cells.{settingsIn}
+use Rattle.cells.specs.Code.{settingsRow}
+use Rattle.cells.proofs.RowLaws.{settings-says}
+use Rattle.rowpeer.specs.Record.{recordIn, recordRows}
+use Rattle.rowpeer.proofs.FreshLaws.{fresh-says}
 use Rattle.eventfile.specs.File.{parseOf}
 use Rattle.eventfile.specs.declared.types.Parse.{Parse}
 use Rattle.eventfile.specs.declared.types.Parse.the-variants as parse
 use Rattle.lines.specs.Text.{lineOf, written}
-use Rattle.pathrun.specs.Sessions.{noSettings, sessionOf, begun, stillOf, stopLine, stopPhase}
-use Rattle.pathrun.specs.Sessions.{ranAt, stoppedAt, laidAt, lastBy, lastIn, lastOf}
+use Rattle.pathrun.specs.Sessions.{noSettings, sessionOf, begun, stopLine, stopPhase, laidAt, lastBy, lastIn}
+use Rattle.pathrun.specs.Words.{callAt, stoppedAt}
+use Rattle.pathrun.specs.declared.types.Phase.{Phase}
 use Rattle.pathrun.specs.declared.types.Phase.the-variants as phase
-use Rattle.pathrun.specs.declared.types.Session.{Session}
-use Rattle.pathrun.specs.declared.types.Run.{Run}
+use Rattle.pathrun.specs.declared.types.Call.{Call}
 
--- ---- lines and answers
+-- ---- lines
 
 -- a line whose last two numbers are those
 pub laid-as : (at n k : ℕ) {x y x′ y′ r : ℕ} (l : List ℕ) {m : List ℕ} → x ≡ x′ → y ≡ y′
@@ -45,19 +43,6 @@ laid-as at n k l p q h = (
   h .1
       ∙ (λ j. laidAt at (lineOf n k (p j) (q j)) l),
 )
-
-pub still-choose : (t : Settings) (slots : List Slot) (e : Event) {r : Reply} → e .kind ≡ 15 → r
-    ≡ chosenOf slots (e .span)
-    → r ≡ stillOf t slots e
-still-choose t slots e k q =
-    q ∙ sym (λ j. cond (eq-eqb (e .kind) 15 k j) (chosenOf slots (e .span)) (onSlot t emptySlot e .reply))
-
-pub still-out : (t : Settings) (slots : List Slot) (e : Event) {s : Slot} {u : Turn} → eqb (e .kind) 15 ≡ false
-    → s ≡ emptySlot
-    → u ≡ onSlot t s e → u .reply ≡ stillOf t slots e
-still-out t slots e {s} {u} k a q =
-    (λ j. q j .reply) ∙ (λ j. onSlot t (a j) e .reply)
-    ∙ sym (λ j. cond (k j) (chosenOf slots (e .span)) (onSlot t emptySlot e .reply))
 
 -- ---- a stop
 
@@ -85,63 +70,68 @@ waits-cut {x} {why} {k} {r} e a b =
 pub none-laid : (l : List ℕ) → (0 ≡ written [] l) × (l ≡ over [] l)
 none-laid l = (sym (cond-same (leb 0 (length l)) 0), sym (over-fits [] l (omega arith)))
 
-pub stop-rest : (t : Settings) (slots : List Slot) (n : ℕ) (x : Parse) (p : ℕ) (l : List ℕ) (at : ℕ) {r : Run} → Waits x
-    → r ≡ ranAt t slots n phase.Running p at false
-    → (r ≡ stoppedAt t slots n x p l at) × (l ≡ laidAt at (stopLine x n) l)
-stop-rest t slots n x p l at w q =
+pub stop-rest : (n : ℕ) (x : Parse) (p : ℕ) (l : List ℕ) (at : ℕ) {r : Call} → Waits x
+    → r ≡ callAt n phase.Running p at false
+    → (r ≡ stoppedAt n x p l at) × (l ≡ laidAt at (stopLine x n) l)
+stop-rest n x p l at w q =
     let z = none-laid (drop at l) in
     let a : at ≡ at + written (stopLine x n) (drop at l) =
     omega (arith, z .0) ∙ (λ j. at + written (sym (w .line n) j) (drop at l)) in (
-      q ∙ (λ j. ranAt t slots n (sym (w .stays) j) p (a j) false),
+      q ∙ (λ j. callAt n (sym (w .stays) j) p (a j) false),
       sym (take-append-drop at l) ∙ (λ j. take at l ++ (z .1) j) ∙ (λ j. laidAt at (sym (w .line n) j) l),
     )
 
-pub stop-over : (t : Settings) (slots : List Slot) (n : ℕ) {x : Parse} {why : Refusal} {k r end : ℕ} (p : ℕ)
-    (l : List ℕ) (at : ℕ)
-    {m : List ℕ} {v : Run} → x ≡ parse.Refused why k → r ≡ refusalNumber why → eqb r 13 ≡ false
+pub stop-over : (n : ℕ) {x : Parse} {why : Refusal} {k r end : ℕ} (p : ℕ) (l : List ℕ) (at : ℕ) {m : List ℕ} {v : Call}
+    → x ≡ parse.Refused why k → r ≡ refusalNumber why → eqb r 13 ≡ false
     → (end ≡ at + written (lineOf n k r 0) (drop at l)) × (m ≡ laidAt at (lineOf n k r 0) l)
-    → v ≡ ranAt t slots n phase.Over p end false
-    → (v ≡ stoppedAt t slots n x p l at) × (m ≡ laidAt at (stopLine x n) l)
-stop-over t slots n {x} {why} {k} {r} {end} p l at {m} {v} e a b h q =
+    → v ≡ callAt n phase.Over p end false
+    → (v ≡ stoppedAt n x p l at) × (m ≡ laidAt at (stopLine x n) l)
+stop-over n {x} {why} {k} {r} {end} p l at {m} {v} e a b h q =
     let c : eqb (refusalNumber why) 13 ≡ false = (λ j. eqb (sym a j) 13) ∙ b in
     let line : lineOf n k r 0 ≡ stopLine x n =
     (λ j. lineOf n k (a j) 0) ∙ sym (λ j. cond (c j) [] (lineOf n k (refusalNumber why) 0))
     ∙ ap (λ (z : Parse). stopLine z n) (sym e) in
     let over : phase.Over ≡ stopPhase x = sym (λ j. cond (c j) phase.Running phase.Over) ∙ ap stopPhase (sym e) in
     let w : end ≡ at + written (stopLine x n) (drop at l) = h .0 ∙ (λ j. at + written (line j) (drop at l)) in
-    (q ∙ (λ j. ranAt t slots n (over j) p (w j) false), h .1 ∙ (λ j. laidAt at (line j) l))
+    (q ∙ (λ j. callAt n (over j) p (w j) false), h .1 ∙ (λ j. laidAt at (line j) l))
 
 -- ---- a session
 
-pub begin-is : {m : Stepped} → m ≡ recordOf noSettings → sessionOf phase.Settings (m .next) 1 ≡ begun
-unfolding begun recordOf
-begin-is q = λ j. sessionOf phase.Settings (q j .next) 1
+-- the words of a new record say it
+pub fresh-in : (s : Settings) {t : List ℕ} (t₀ : List ℕ) {a : List (List (List ℕ))} (a₀ : List (List (List ℕ)))
+    → allowed s ≡ true → t ≡ cond (allowed s) (settingsRow s) t₀
+    → a ≡ cond (allowed s) (recordRows (freshRecord s)) a₀ → recordIn t a ≡ freshRecord s
+fresh-in s {t} t₀ {a} a₀ y p q =
+    let v : a ≡ recordRows (freshRecord s) = q ∙ (λ j. cond (y j) (recordRows (freshRecord s)) a₀) in
+    let w : settingsIn t ≡ s = ap settingsIn (p ∙ (λ j. cond (y j) (settingsRow s) t₀)) ∙ settings-says s in
+    (λ j. recordIn t (v j)) ∙ (λ j. recordIn t (recordRows (freshRecord (sym w j)))) ∙ fresh-says t ∙ ap freshRecord w
+
+pub begin-is : {t : List ℕ} (t₀ : List ℕ) {a : List (List (List ℕ))} (a₀ : List (List (List ℕ)))
+    → t ≡ cond (allowed noSettings) (settingsRow noSettings) t₀
+    → a ≡ cond (allowed noSettings) (recordRows (freshRecord noSettings)) a₀
+    → sessionOf phase.Settings (recordIn t a) 1 ≡ begun
+unfolding begun
+begin-is t₀ a₀ p q = λ j. sessionOf phase.Settings (fresh-in noSettings t₀ a₀ refl p q j) 1
 
 -- the last line
-pub last-settings : (s : Session) (l : List ℕ) → s .phase ≡ phase.Settings → lastOf s l ≡ lineOf 0 0 13 0
-unfolding lastOf
-last-settings s l e = λ j. lastIn (e j) s l
+pub last-settings : (n : ℕ) (l : List ℕ) {f : Phase} → f ≡ phase.Settings → lastIn f n l ≡ lineOf 0 0 13 0
+last-settings n l e = λ j. lastIn (e j) n l
 
-pub last-over : (s : Session) (l : List ℕ) → s .phase ≡ phase.Over → lastOf s l ≡ []
-unfolding lastOf
-last-over s l e = λ j. lastIn (e j) s l
+pub last-over : (n : ℕ) (l : List ℕ) {f : Phase} → f ≡ phase.Over → lastIn f n l ≡ []
+last-over n l e = λ j. lastIn (e j) n l
 
-pub last-by : (s : Session) (l : List ℕ) {x y : Parse} → s .phase ≡ phase.Running → x ≡ parseOf l 0 → x ≡ y
-    → lastOf s l ≡ lastBy y (s .number)
-unfolding lastOf
-last-by s l e a b = (λ j. lastIn (e j) s l) ∙ (λ j. lastBy ((sym a ∙ b) j) (s .number))
+pub last-by : (l : List ℕ) {f : Phase} (n : ℕ) {x y : Parse} → f ≡ phase.Running → x ≡ parseOf l 0 → x ≡ y
+    → lastIn f n l ≡ lastBy y n
+last-by l n e a b = (λ j. lastIn (e j) n l) ∙ (λ j. lastBy ((sym a ∙ b) j) n)
 
-pub last-refused : (s : Session) (l : List ℕ) {x : Parse} {why : Refusal} {k r : ℕ} → s .phase ≡ phase.Running
-    → x ≡ parseOf l 0
-    → x ≡ parse.Refused why k → r ≡ refusalNumber why → lastOf s l ≡ lineOf (s .number) k r 0
-last-refused s l {x} {why} {k} {r} e a b q = last-by s l e a b ∙ (λ j. lineOf (s .number) k (sym q j) 0)
+pub last-refused : (l : List ℕ) {f : Phase} (n : ℕ) {x : Parse} {why : Refusal} {k r : ℕ} → f ≡ phase.Running
+    → x ≡ parseOf l 0 → x ≡ parse.Refused why k → r ≡ refusalNumber why → lastIn f n l ≡ lineOf n k r 0
+last-refused l n {x} {why} {k} {r} e a b q = last-by l n e a b ∙ (λ j. lineOf n k (sym q j) 0)
 
 -- written, or nothing
-pub finish-as : (s : Session) (l : List ℕ) {line : List ℕ} {r : ℕ} (o : List ℕ) {m : List ℕ} → lastOf s l ≡ line
-    → r ≡ written line o
-    → m ≡ over line o → (r ≡ written (lastOf s l) o) × (m ≡ over (lastOf s l) o)
-finish-as s l o e a b = (a ∙ (λ j. written (sym e j) o), b ∙ (λ j. over (sym e j) o))
+pub finish-as : {last line : List ℕ} {r : ℕ} (o : List ℕ) {m : List ℕ} → last ≡ line → r ≡ written line o
+    → m ≡ over line o → (r ≡ written last o) × (m ≡ over last o)
+finish-as o e a b = (a ∙ (λ j. written (sym e j) o), b ∙ (λ j. over (sym e j) o))
 
-pub finish-none : (s : Session) (l o : List ℕ) → lastOf s l ≡ [] → (0 ≡ written (lastOf s l) o) × (o
-    ≡ over (lastOf s l) o)
-finish-none s l o e = finish-as s l o e (none-laid o .0) (none-laid o .1)
+pub finish-none : {last : List ℕ} (o : List ℕ) → last ≡ [] → (0 ≡ written last o) × (o ≡ over last o)
+finish-none o e = finish-as o e (none-laid o .0) (none-laid o .1)

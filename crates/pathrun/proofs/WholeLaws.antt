@@ -24,11 +24,9 @@ use Rattle.eventfile.specs.declared.types.Parse.the-variants as parse
 use Rattle.lines.specs.Text.{lineOf, written}
 use Rattle.lines.proofs.TextLaws.{line-few}
 use Rattle.pathrun.specs.Lines.{numberAfter, linesOf}
-use Rattle.pathrun.specs.Sessions.{begun, eventLine, ranOf, lastOf}
+use Rattle.pathrun.specs.Sessions.{Session, Run, begun, eventLine, ranOf, lastIn, lastOf}
 use Rattle.eventfile.specs.Claim.{FileDemand}
 use Rattle.pathrun.specs.Whole.{hasRoom, fileText, fileReply}
-use Rattle.pathrun.specs.declared.types.Session.{Session}
-use Rattle.pathrun.specs.declared.types.Run.{Run}
 use Rattle.pathrun.specs.declared.types.Written.the-variants as reply
 use Rattle.eventfile.proofs.ReadLaws.{parse-stands, Stands}
 use Rattle.pathrun.proofs.WalkLaws.{walkBy, walk, walkAll}
@@ -144,12 +142,13 @@ module _ {l o : List ℕ} {s : Session} {r : Run} {m : List ℕ} (e : Ends l o s
   wrote-in = omega (arith, after-call .room, filled-length after-call)
 
   module _ {k : ℕ} {m′ : List ℕ}
-      (f : (k ≡ written (lastOf (r .session) (midOf (r .place) (length l - r .place) l)) (midOf (r .wrote)
-      (length m - r .wrote) m))
-      × (m′ ≡ over (lastOf (r .session) (midOf (r .place) (length l - r .place) l)) (midOf (r .wrote)
-      (length m - r .wrote) m))) where
-    line-is : lastOf (r .session) (midOf (r .place) (length l - r .place) l)
+      (f : (k ≡ written (lastIn (r .session .phase) (r .session .number) (midOf (r .place) (length l - r .place) l))
+      (midOf (r .wrote) (length m - r .wrote) m))
+      × (m′ ≡ over (lastIn (r .session .phase) (r .session .number) (midOf (r .place) (length l - r .place) l))
+      (midOf (r .wrote) (length m - r .wrote) m))) where
+    line-is : lastIn (r .session .phase) (r .session .number) (midOf (r .place) (length l - r .place) l)
         ≡ lastOf (ranOf (length o / 84) begun l .run .session) (drop (ranOf (length o / 84) begun l .run .place) l)
+    unfolding lastOf
     line-is =
         let part-is : midOf (r .place) (length l - r .place) l ≡ drop (r .place) l =
         take-all (length l - r .place) (drop (r .place) l) (le-of-eq (length-drop (r .place) l)) in
@@ -157,7 +156,7 @@ module _ {l o : List ℕ} {s : Session} {r : Run} {m : List ℕ} (e : Ends l o s
 
     all-laid : Filled o (linesOf l) (putMid (r .wrote) (length m - r .wrote) m m′) (r .wrote + k)
     all-laid =
-        let b = lastOf (r .session) (midOf (r .place) (length l - r .place) l) in
+        let b = lastIn (r .session .phase) (r .session .number) (midOf (r .place) (length l - r .place) l) in
         let t = ranOf (length o / 84) begun l .text in
         let y = lay-tail b m wrote-in (f .0) (f .1) in
         let n : length b ≡ length (lastOf (ranOf (length o / 84) begun l .run .session) (drop (ranOf

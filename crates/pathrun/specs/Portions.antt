@@ -5,8 +5,7 @@ use mathlib.Core.List.{List, [], _∷_, _++_}
 use mathlib.Core.Path.{_≡_}
 use lib.ListN.{length, drop}
 use Rattle.pathrun.specs.Lines.{linesOf}
-use Rattle.pathrun.specs.Sessions.{Ran, begun, ranOf, lastOf}
-use Rattle.pathrun.specs.declared.types.Session.{Session}
+use Rattle.pathrun.specs.Sessions.{Session, Ran, begun, ranOf, lastOf}
 
 -- what calls wrote, the session that they leave, and the bytes that are still held
 pub record Fed : Type 0 where

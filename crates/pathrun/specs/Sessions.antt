@@ -6,26 +6,27 @@ use lib.Dec.{eqb, ltb}
 use lib.ListN.{length, take, drop}
 use Rattle.base.specs.Refusals.{refusalNumber}
 use Rattle.octets.specs.Octets.{over}
-use Rattle.rules.specs.Event.{Choose, is, numberOf, valueOf}
-use Rattle.rules.specs.Rules.{emptySlot, onSlot}
+use Rattle.rules.specs.Event.{numberOf, valueOf}
 use Rattle.rules.specs.Step.{step, allowed, freshRecord}
 use Rattle.rules.specs.declared.types.Settings.{Settings}
 use Rattle.rules.specs.declared.types.Event.{Event}
 use Rattle.rules.specs.declared.types.Record.{Record}
 use Rattle.rules.specs.declared.types.Reply.{Reply}
-use Rattle.rules.specs.declared.types.Slot.{Slot}
-use Rattle.choosing.specs.Choosing.{chosenOf}
 use Rattle.eventfile.specs.File.{settingsOf, parseOf}
 use Rattle.eventfile.specs.declared.types.Parse.{Parse}
 use Rattle.eventfile.specs.declared.types.Parse.the-variants as parse
-use Rattle.lines.specs.Text.{lineOf, written}
+use Rattle.lines.specs.Text.{lineOf}
 use Rattle.pathrun.specs.Lines.{numberAfter}
 use Rattle.pathrun.specs.declared.types.Phase.{Phase}
 use Rattle.pathrun.specs.declared.types.Phase.the-variants as phase
-use Rattle.pathrun.specs.declared.types.Session.{Session}
-use Rattle.pathrun.specs.declared.types.Run.{Run}
 
 -- ---- a session
+
+-- what is known between two portions of a file: the record, the number of the file's next record, and the phase
+pub record Session : Type 0 where
+  pub rec : Record
+  pub number : ℕ
+  pub phase : Phase
 
 -- a session before its first byte; the record and the number count from the settings on
 abbrev pub noSettings : Settings
@@ -43,7 +44,14 @@ overOf s = sessionOf phase.Over (s .rec) (s .number)
 
 -- ---- a call
 
--- what a call writes, and its answer
+-- what a call leaves: the session, how many bytes it read and wrote, and whether it stopped for want of room
+pub record Run : Type 0 where
+  pub session : Session
+  pub place : ℕ
+  pub wrote : ℕ
+  pub full : Bool
+
+-- what a call writes, and what it leaves
 pub record Ran : Type 0 where
   pub text : List ℕ
   pub run : Run
@@ -56,10 +64,6 @@ callEnd text s at full =
 -- the line of an event
 abbrev pub eventLine : ℕ → Event → Reply → List ℕ
 eventLine n e r = lineOf n (e .kind) (numberOf r) (valueOf r)
-
--- the answer of an event that changes no slot: a choose, or one whose slot is none
-abbrev pub stillOf : Settings → List Slot → Event → Reply
-stillOf t slots e = cond (is Choose e) (chosenOf slots (e .span)) (onSlot t emptySlot e .reply)
 
 -- "After 13, 14 or 15 it stops": a record that can't be read ends the session with its line, but one that is cut short
 -- (13) waits for more bytes
@@ -104,10 +108,6 @@ ranIn phase.Over f s l = callEnd [] s 0 false
 unfoldable pub ranOf : ℕ → Session → List ℕ → Ran
 ranOf f s l = cond (eqb f 0) (callEnd [] s 0 true) (ranIn (s .phase) f s l)
 
--- the answer of a call that reads and writes nothing
-abbrev pub stayed : Session → Bool → Run
-stayed s full = callEnd [] s 0 full .run
-
 -- a line has at most 84 bytes: four numbers of at most 20 places, a byte behind each
 abbrev pub linesIn : List ℕ → ℕ
 linesIn out = length out / 84
@@ -120,35 +120,20 @@ lastBy parse.End n = []
 lastBy (parse.Refused why k) n = lineOf n k (refusalNumber why) 0
 lastBy (parse.Event e next) n = []
 
-abbrev pub lastIn : Phase → Session → List ℕ → List ℕ
-lastIn phase.Settings s l = lineOf 0 0 13 0
-lastIn phase.Running s l = lastBy (parseOf l 0) (s .number)
-lastIn phase.Over s l = []
+abbrev pub lastIn : Phase → ℕ → List ℕ → List ℕ
+lastIn phase.Settings n l = lineOf 0 0 13 0
+lastIn phase.Running n l = lastBy (parseOf l 0) n
+lastIn phase.Over n l = []
 
 -- the last line, if there is one, by the bytes that are left when the input ends
 unfoldable pub lastOf : Session → List ℕ → List ℕ
-lastOf s l = lastIn (s .phase) s l
+lastOf s l = lastIn (s .phase) (s .number) l
 
 -- ---- lent bytes
 
 -- a line over lent bytes, behind the first `at` of them
 abbrev pub laidAt : ℕ → List ℕ → List ℕ → List ℕ
 laidAt at line l = take at l ++ over line (drop at l)
-
--- where a run stands
-abbrev pub ranAt : Settings → List Slot → ℕ → Phase → ℕ → ℕ → Bool → Run
-ranAt t slots n p place wrote full =
-    record {
-      session = sessionOf p (record { settings = t; slots = slots }) n;
-      place = place;
-      wrote = wrote;
-      full = full;
-    }
-
--- a run that stops before what stands at a place, with `at` bytes written before
-abbrev pub stoppedAt : Settings → List Slot → ℕ → Parse → ℕ → List ℕ → ℕ → Run
-stoppedAt t slots n x place out at =
-    ranAt t slots n (stopPhase x) place (at + written (stopLine x n) (drop at out)) false
 
 -- the bytes from a place on and before another
 abbrev pub partOf : ℕ → ℕ → List ℕ → List ℕ

@@ -4,16 +4,17 @@ ghost use mathlib.Core.List.{[]};
 ghost use Prim.Native.Nat.{_+_};
 ghost use lib.ListN.{drop};
 ghost use Rattle.lines.specs.Text.{lineOf, written};
-ghost use Rattle.octets.specs.Octets.{over};
-ghost use Rattle.pathrun.specs.Sessions.{eventLine, stillOf, laidAt, stopLine, stoppedAt};
-ghost use Rattle.pathrun.specs.Sessions.{linesIn, ranAt, ranFrom};
+ghost use Rattle.rowpeer.specs.Record.{recordIn};
+ghost use Rattle.pathrun.specs.Sessions.{eventLine, laidAt, stopLine, linesIn, ranFrom};
+ghost use Rattle.pathrun.specs.Words.{callAt, stoppedAt, Runs};
 use crate::types::*;
+use base::types::Refusal;
 use eventfile::types::Parse;
+use rows::probes::ROWS;
 use rules::types::*;
 use select::types::PATH_MAX_PER_PEER;
 use turns::reply::number_of;
 use turns::reply::value_of;
-use turns::slot::on_slot;
 
 // Writes a line behind the first `at` bytes of `out`, or nothing where it does not fit; gives the place after it.
 fn lay(out: &mut [u8], at: usize, number: u64, kind: u64, refusal: u64, value: u64) -> usize
@@ -41,41 +42,16 @@ fn lay_event(out: &mut [u8], at: usize, number: u64, e: Event, reply: Reply) -> 
     )
 }
 
-// The answer of an event that changes no slot: a choose, or one whose slot is none.
-fn still(settings: Settings, slots: [Slot; PATH_MAX_PER_PEER], e: Event) -> Reply
-    ensures { λ r. ⌜ r ≡ stillOf settings slots e ⌝ }
+// Where a run stands: the number of the next record, what is awaited, and the places.
+fn call_at(number: u64, phase: Phase, place: usize, wrote: usize, full: bool) -> Call
+    ensures { λ r. ⌜ r ≡ callAt number phase place wrote full ⌝ }
 {
-    if e.kind == 15 {
-        return choosing::chosen(slots, e.span);
-    }
-    let empty = turns::kinds::empty_slot();
-    let t = on_slot(settings, empty, e);
-    t.reply
-}
-
-// Where a run stands: the slots under their settings, the number of the next record, what is awaited, and the places.
-fn ran(
-    settings: Settings,
-    slots: [Slot; PATH_MAX_PER_PEER],
-    number: u64,
-    phase: Phase,
-    place: usize,
-    wrote: usize,
-    full: bool,
-) -> Run
-    ensures { λ r. ⌜ r ≡ ranAt settings slots number phase place wrote full ⌝ }
-{
-    let rec = Record {
-        settings: settings,
-        slots: slots,
-    };
-    let session = Session {
-        rec: rec,
+    let mark = Mark {
         number: number,
         phase: phase,
     };
-    Run {
-        session: session,
+    Call {
+        mark: mark,
         place: place,
         wrote: wrote,
         full: full,
@@ -84,19 +60,11 @@ fn ran(
 
 // Stops before what stands at a place and is no event, with `at` bytes written: a record that can't be read ends the
 // session with its line, but one that is cut short waits for more bytes.
-fn stop(
-    settings: Settings,
-    slots: [Slot; PATH_MAX_PER_PEER],
-    number: u64,
-    x: Parse,
-    place: usize,
-    out: &mut [u8],
-    at: usize,
-) -> Run
-    ensures { λ r. ⌜ (r ≡ stoppedAt settings slots number x place (now (out .entry)) at)
+fn stop(number: u64, x: Parse, place: usize, out: &mut [u8], at: usize) -> Call
+    ensures { λ r. ⌜ (r ≡ stoppedAt number x place (now (out .entry)) at)
         × (now (out .exit) ≡ laidAt at (stopLine x number) (now (out .entry))) ⌝ }
 {
-    let rest = ran(settings, slots, number, Phase::Running, place, at, false);
+    let rest = call_at(number, Phase::Running, place, at, false);
     match x {
         Parse::End => rest,
         Parse::Event(e, next) => rest,
@@ -106,20 +74,25 @@ fn stop(
                 return rest;
             }
             let end = lay(out, at, number, kind as u64, refusal, 0);
-            ran(settings, slots, number, Phase::Over, place, end, false)
+            call_at(number, Phase::Over, place, end, false)
         }
     }
 }
 
-// The records from a place on, at most one for each 84 bytes of `out`. An event takes its slot out and puts it back.
-pub fn run(rec: Record, number: u64, s: &[u8], place: usize, out: &mut [u8]) -> Run
-    ensures { λ r. ⌜ (r ≡ ranFrom (linesIn (now (out .entry))) (now (s .entry)) [] rec number place .run)
-        × (now (out .exit) ≡ over
-        (ranFrom (linesIn (now (out .entry))) (now (s .entry)) [] rec number place .text) (now (out .entry))) ⌝ }
+// The records from a place on, at most one for each 84 bytes of `out`. An event changes the record in its lent words.
+pub fn run(
+    t: &[u64; 4],
+    rec: &mut [[[u64; 4]; ROWS]; PATH_MAX_PER_PEER],
+    number: u64,
+    s: &[u8],
+    place: usize,
+    out: &mut [u8],
+) -> Call
+    ensures { λ r. ⌜ Runs (now (t .entry)) (now (rec .exit)) r (now (out .entry)) (now (out .exit))
+        (ranFrom (linesIn (now (out .entry))) (now (s .entry)) []
+        (recordIn (now (t .entry)) (now (rec .entry))) number place) ⌝ }
 {
     let most = out.len() / 84;
-    let settings = rec.settings;
-    let mut slots = rec.slots;
     let mut n = number;
     let mut p = place;
     let mut at: usize = 0;
@@ -127,26 +100,17 @@ pub fn run(rec: Record, number: u64, s: &[u8], place: usize, out: &mut [u8]) -> 
     while i < most {
         let x = eventfile::record_at(s, p);
         match x {
-            Parse::End => return stop(settings, slots, n, x, p, out, at),
-            Parse::Refused(why, kind) => return stop(settings, slots, n, x, p, out, at),
+            Parse::End => return stop(n, x, p, out, at),
+            Parse::Refused(why, kind) => return stop(n, x, p, out, at),
             Parse::Event(e, next) => {
                 let line = n;
                 n = std::num::wrapping_add_u64(n, 1);
                 p = next;
                 i += 1;
-                if (e.kind == 15) | (7 < e.slot) {
-                    let reply = still(settings, slots, e);
-                    at = lay_event(out, at, line, e, reply);
-                } else {
-                    let j = e.slot as usize;
-                    let t = on_slot(settings, slots[j], e);
-                    let slot = t.slot;
-                    let reply = t.reply;
-                    slots[j] = slot;
-                    at = lay_event(out, at, line, e, reply);
-                }
+                let reply = rowpeer::record::event(t, rec, e);
+                at = lay_event(out, at, line, e, reply);
             }
         }
     }
-    ran(settings, slots, n, Phase::Running, p, at, true)
+    call_at(n, Phase::Running, p, at, true)
 }

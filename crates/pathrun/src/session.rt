@@ -1,17 +1,21 @@
-// A session over the bytes of an event file: begun, called on the bytes held, and finished.
+// A session over the bytes of an event file, its record in lent words: begun, called on the bytes held, and finished.
 ghost use mathlib.Core.Path.{_≡_};
 ghost use Rattle.lines.specs.Text.{written};
 ghost use Rattle.octets.specs.Octets.{over};
-ghost use Rattle.pathrun.specs.Sessions.{begun, stayed, linesIn, ranOf, lastOf};
+ghost use Rattle.pathrun.specs.Sessions.{begun, linesIn, ranOf, lastIn};
+ghost use Rattle.pathrun.specs.Words.{sessionIn, stayedAt, Runs};
 use crate::run::run;
 use crate::types::*;
+use base::types::Refusal;
 use eventfile::types::Parse;
+use rows::probes::ROWS;
 use rules::types::*;
+use select::types::PATH_MAX_PER_PEER;
 use turns::reply::number_of;
 
-// A session before its first byte.
-pub fn begin() -> Session
-    ensures { λ r. ⌜ r ≡ begun ⌝ }
+// A session before its first byte: the words become those of a new record, whatever they were.
+pub fn begin(t: &mut [u64; 4], rec: &mut [[[u64; 4]; ROWS]; PATH_MAX_PER_PEER]) -> Mark
+    ensures { λ r. ⌜ sessionIn (now (t .exit)) (now (rec .exit)) r ≡ begun ⌝ }
 {
     let settings = Settings {
         cap: 0,
@@ -19,21 +23,19 @@ pub fn begin() -> Session
         window: 0,
         horizon: 0,
     };
-    let made = peer::record::new(settings);
-    let rec = made.next;
-    Session {
-        rec: rec,
+    rowpeer::record::new(t, rec, settings);
+    Mark {
         number: 1,
         phase: Phase::Settings,
     }
 }
 
 // A call that reads and writes nothing.
-fn stay(session: Session, full: bool) -> Run
-    ensures { λ r. ⌜ r ≡ stayed session full ⌝ }
+fn stay(mark: Mark, full: bool) -> Call
+    ensures { λ r. ⌜ r ≡ stayedAt mark full ⌝ }
 {
-    Run {
-        session: session,
+    Call {
+        mark: mark,
         place: 0,
         wrote: 0,
         full: full,
@@ -42,52 +44,53 @@ fn stay(session: Session, full: bool) -> Run
 
 // One call on the bytes held: the settings, once they are there, then every record that lies whole within the bytes,
 // with at most a line for each 84 bytes of `out`.
-pub fn step(session: Session, s: &[u8], out: &mut [u8]) -> Run
-    ensures { λ r. ⌜ (r ≡ ranOf (linesIn (now (out .entry))) session (now (s .entry)) .run)
-        × (now (out .exit) ≡ over
-        (ranOf (linesIn (now (out .entry))) session (now (s .entry)) .text) (now (out .entry))) ⌝ }
+pub fn step(
+    t: &mut [u64; 4],
+    rec: &mut [[[u64; 4]; ROWS]; PATH_MAX_PER_PEER],
+    mark: Mark,
+    s: &[u8],
+    out: &mut [u8],
+) -> Call
+    ensures { λ r. ⌜ Runs (now (t .exit)) (now (rec .exit)) r (now (out .entry)) (now (out .exit))
+        (ranOf (linesIn (now (out .entry))) (sessionIn (now (t .entry)) (now (rec .entry)) mark) (now (s .entry))) ⌝ }
 {
     if out.len() < 84 {
-        return stay(session, true);
+        return stay(mark, true);
     }
-    let rec = session.rec;
-    let number = session.number;
-    let phase = session.phase;
+    let number = mark.number;
+    let phase = mark.phase;
     match phase {
         Phase::Settings => {
             if s.len() < 32 {
-                return stay(session, false);
+                return stay(mark, false);
             }
-            let made = peer::record::new(eventfile::settings_from(s));
-            let fresh = made.next;
-            let reply = made.reply;
+            let reply = rowpeer::record::new(t, rec, eventfile::settings_from(s));
             if number_of(reply) == 0 {
-                return run(fresh, 1, s, 32, out);
+                return run(t, rec, 1, s, 32, out);
             }
             let wrote = lines::put_line(out, 0, 0, 6, 0);
-            let over = Session {
-                rec: rec,
+            let over = Mark {
                 number: number,
                 phase: Phase::Over,
             };
-            Run {
-                session: over,
+            Call {
+                mark: over,
                 place: 0,
                 wrote: wrote,
                 full: false,
             }
         }
-        Phase::Running => run(rec, number, s, 0, out),
-        Phase::Over => stay(session, false),
+        Phase::Running => run(t, rec, number, s, 0, out),
+        Phase::Over => stay(mark, false),
     }
 }
 
 // The end of the input, with these bytes left: writes the last line, if there is one; gives the bytes written.
-pub fn finish(session: Session, s: &[u8], out: &mut [u8]) -> usize
-    ensures { λ r. ⌜ (r ≡ written (lastOf session (now (s .entry))) (now (out .entry)))
-        × (now (out .exit) ≡ over (lastOf session (now (s .entry))) (now (out .entry))) ⌝ }
+pub fn finish(mark: Mark, s: &[u8], out: &mut [u8]) -> usize
+    ensures { λ r. ⌜ (r ≡ written (lastIn (mark .phase) (mark .number) (now (s .entry))) (now (out .entry)))
+        × (now (out .exit) ≡ over (lastIn (mark .phase) (mark .number) (now (s .entry))) (now (out .entry))) ⌝ }
 {
-    let phase = session.phase;
+    let phase = mark.phase;
     match phase {
         Phase::Settings => lines::put_line(out, 0, 0, 13, 0),
         Phase::Running => {
@@ -96,7 +99,7 @@ pub fn finish(session: Session, s: &[u8], out: &mut [u8]) -> usize
                 Parse::End => 0,
                 Parse::Event(e, next) => 0,
                 Parse::Refused(why, kind) => {
-                    lines::put_line(out, session.number, kind as u64, why.number(), 0)
+                    lines::put_line(out, mark.number, kind as u64, why.number(), 0)
                 }
             }
         }

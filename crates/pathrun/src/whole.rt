@@ -8,7 +8,8 @@ use crate::session::finish;
 use crate::session::step;
 use crate::types::*;
 use base::types::Refusal;
-use rules::types::*;
+use rows::probes::ROWS;
+use select::types::PATH_MAX_PER_PEER;
 
 // Writes the lines of a file to the front of `out`, or nothing where `out` has no room for a line of 84 bytes for each
 // three bytes of the file and one more; demand 3 holds of the file's events and these answers.
@@ -20,9 +21,13 @@ pub fn lines_of_file(s: &[u8], out: &mut [u8]) -> Written
     if out.len() / 84 <= s.len() / 3 {
         return Written::Refused(Refusal::Lent);
     }
-    let session = begin();
-    let r = step(session, s, out);
-    let left = r.session;
+    let word = [0u64; 4];
+    let path = [word; ROWS];
+    let mut t = [0u64; 4];
+    let mut rec = [path; PATH_MAX_PER_PEER];
+    let mark = begin(&mut t, &mut rec);
+    let r = step(&mut t, &mut rec, mark, s, out);
+    let left = r.mark;
     let p = r.place;
     let w = r.wrote;
     let k = finish(left, &s[p..], &mut out[w..]);

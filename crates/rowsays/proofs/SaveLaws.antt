@@ -5,29 +5,61 @@ use mathlib.Core.Path.{_≡_, refl, ap, sym, _∙_}
 use mathlib.Core.List.{List, [], _∷_, _++_, map}
 use native.Mathlib.Omega.{arith}
 use native.Mathlib.Numerals.{add-one}
-use lib.ListN.{length, take, getD}
+use lib.ListN.{length, take, getD, set}
 use lib.Seq.{take-suc, take-all}
 use Rattle.base.proofs.ScanLaws.{map-append}
 use Rattle.live.specs.Path.{withRing, withLate, withIds, withLadder, withMisses, withRtts, withSizes, withTraffic, withEtx}
 use Rattle.live.specs.declared.types.Liveness.{Liveness}
+use Rattle.rtt.specs.declared.types.Rtts.{Rtts}
 use Rattle.rules.specs.declared.types.Record.{Record}
 use Rattle.rules.specs.declared.types.Slot.{Slot}
 use Rattle.cells.specs.Cells.{labelIn, usedIn}
 use Rattle.cells.specs.Code.{settingsRow}
 use Rattle.cells.proofs.RowLaws.{settings-says}
-use Rattle.rows.specs.Parts.{withQuiet, withStop}
+use Rattle.rows.specs.Parts.{withQuiet, withStop, withSamples, withSpans, withTrip}
 use Rattle.rows.specs.View.{row, pathIn, slotIn}
 use Rattle.rows.specs.Encode.{slotRows}
 use Rattle.rows.specs.Says.{Says}
 use Rattle.rows.proofs.NewLaws.{newSlot}
-use Rattle.rows.proofs.SaysLaws.{says-then, says-as}
+use Rattle.rows.proofs.SaysLaws.{says-none, says-then, says-as}
 use Rattle.rowpeer.specs.Record.{recordIn, recordRows}
 use Rattle.rowsays.specs.Probed.{probedWith, measuredWith}
-use Rattle.rowtimes.proofs.StoreLaws.{Part}
+use Rattle.rowtimes.proofs.StoreLaws.{Part, Filling, filling-start, filling-next, filling-end}
 
 -- the ring is a part of a path
 pub ring-part : Part (λ v. v .ring) withRing
 ring-part = record { same = λ v. refl; new = λ v x. refl; last = λ v x y. refl }
+
+-- from rows a to rows b the first i of n places of the part have become those of l, and nothing else has changed
+pub record Storing {A : Type 0} (get : Liveness → List A) (put : Liveness → List A → Liveness) (l : List A) (n : ℕ)
+    (a b : List (List ℕ)) (i : ℕ) : Type 0 where
+  pub says : Says a b (put (pathIn a) (get (pathIn b)))
+  pub fill : Filling l n (get (pathIn b)) i
+
+module _ {A : Type 0} {get : Liveness → List A} {put : Liveness → List A → Liveness} {l : List A} {n : ℕ}
+    {a : List (List ℕ)} (part : Part get put) where
+  -- before the first
+  pub storing-start : length l ≡ n → length (get (pathIn a)) ≡ n → Storing get put l n a a 0
+  storing-start h k = record { says = says-none (part .same (pathIn a)); fill = filling-start h k }
+
+  -- one more
+  pub storing-next : {b c : List (List ℕ)} {i : ℕ} (d : A) → Storing get put l n a b i → i < n
+      → Says b c (put (pathIn b) (set (get (pathIn b)) i (getD l i d))) → Storing get put l n a c (i + 1)
+  storing-next {b} {c} {i} d s h w =
+      let x : List A = set (get (pathIn b)) i (getD l i d) in
+      let q : get (pathIn c) ≡ x = ap get (w .path) ∙ part .new (pathIn b) x in
+      record {
+        says =
+            says-as (says-then (s .says) w)
+            (ap (λ (v : Liveness). put v x) (s .says .path)
+            ∙ part .last (pathIn a) (get (pathIn b)) x
+            ∙ ap (put (pathIn a)) (sym q));
+        fill = rw q (filling-next d (s .fill) h refl);
+      }
+
+  -- all of them
+  pub storing-end : {b : List (List ℕ)} {i : ℕ} → Storing get put l n a b i → n ≤ i → Says a b (put (pathIn a) l)
+  storing-end s h = says-as (s .says) (ap (put (pathIn a)) (filling-end (s .fill) h))
 
 -- the rows after each store are told by its contract
 module _ {a b c d e f : List (List ℕ)} (q : Liveness) where
@@ -45,6 +77,13 @@ module _ {a b c d e f : List (List ℕ)} (q : Liveness) where
       chain =
           v .path ∙ ap (λ (x : Liveness). withLadder x (q .ladder))
           (u .path ∙ ap (λ (x : Liveness). withIds x (q .ids)) first)
+
+-- the round trips are samples, spans and the latest
+pub rtts-saved : {a b c d : List (List ℕ)} (r : Rtts) → Says a b (withSamples (pathIn a) (r .samples))
+    → Says b c (withSpans (pathIn b) (r .spans)) → Says c d (withTrip (pathIn c) (r .rtt)) → Says a d (withRtts (pathIn a) r)
+rtts-saved r s t u =
+    says-as (says-then (says-then s t) u)
+    (ap (λ (x : Liveness). withTrip x (r .rtt)) (t .path ∙ ap (λ (x : Liveness). withSpans x (r .spans)) (s .path)))
 
 module _ {a b c d e f g : List (List ℕ)} (q : Liveness) where
   pub measures-saved : Says a b (withRtts (pathIn a) (q .rtts)) → Says b c (withSizes (pathIn b) (q .sizes))

@@ -1,7 +1,8 @@
 // A slot stored in rows by the encoder; and that the encoder's words say what was encoded, whatever it is.
 ghost use mathlib.Core.Path.{_≡_};
-ghost use Rattle.live.specs.Path.{withRing};
+ghost use Rattle.live.specs.Path.{withRing, withRtts};
 ghost use Rattle.cells.specs.Code.{settingsRow};
+ghost use Rattle.rows.specs.Parts.{withSamples, withSpans};
 ghost use Rattle.rows.specs.View.{pathIn, slotIn};
 ghost use Rattle.rows.specs.Encode.{slotRows};
 ghost use Rattle.rows.specs.Says.{Says};
@@ -11,9 +12,9 @@ use live::types::Liveness;
 use ring::types::*;
 use rows::measures::*;
 use rows::probes::*;
+use rtt::types::*;
 use rules::types::*;
 use rowring::store::set_lates;
-use rowtimes::trips::set_rtts;
 use select::types::PATH_MAX_PER_PEER;
 
 // Stores the ring.
@@ -42,6 +43,44 @@ fn set_probes(p: &mut [[u64; 4]; ROWS], path: Liveness)
     set_ids(p, ids);
     set_ladder(p, ladder);
     set_misses(p, path.misses);
+}
+
+// Stores the samples of the window.
+fn set_samples(p: &mut [[u64; 4]; ROWS], l: [Sample; SAMPLES])
+    ensures { λ r. ⌜ Says (now (p .entry)) (now (p .exit)) (withSamples (pathIn (now (p .entry))) l) ⌝ }
+{
+    rows(p);
+    let mut i: usize = 0;
+    while i < SAMPLES {
+        let s = l[i];
+        set_sample(p, i, s);
+        i += 1;
+    }
+}
+
+// Stores the spans of the horizon.
+fn set_spans(p: &mut [[u64; 4]; ROWS], l: [Span; SPANS])
+    ensures { λ r. ⌜ Says (now (p .entry)) (now (p .exit)) (withSpans (pathIn (now (p .entry))) l) ⌝ }
+{
+    rows(p);
+    let mut i: usize = 0;
+    while i < SPANS {
+        let s = l[i];
+        set_span(p, i, s);
+        i += 1;
+    }
+}
+
+// Stores the round trips.
+fn set_rtts(p: &mut [[u64; 4]; ROWS], r: Rtts)
+    ensures { λ x. ⌜ Says (now (p .entry)) (now (p .exit)) (withRtts (pathIn (now (p .entry))) r) ⌝ }
+{
+    let samples = r.samples;
+    let spans = r.spans;
+    let last = r.rtt;
+    set_samples(p, samples);
+    set_spans(p, spans);
+    set_trip(p, last);
 }
 
 // Stores what a path has measured, and its silence.

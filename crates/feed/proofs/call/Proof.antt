@@ -1,6 +1,7 @@
 -- `feed::call` meets its contract.
 -- Assumes nothing.
 use borrow.Author.Needs.{needs}
+use Rattle.pathrun.specs.Words.{sessionIn}
 use Rattle.feed.proofs.FeedLaws.{call-is, call-fits}
 use Rattle.feed.proofs.call.Statement.{statement}
 use Rattle.feed.proofs.call.Tie as tie
@@ -29,11 +30,13 @@ same-length c = search needs
 returns : tie.Need-returns
 returns c =
     let d = c .before .before .step .ensures in
-    let b = c .before .before .before .before .before in
-    let to = b .before .lesser .ensures in
-    let from = b .lesser2 .ensures in
-    let a = b .before .before .before .before .args in
-    (call-is (a .session) (a .p) (a .n) (a .buf .now) (a .out .now) to from d, call-fits (a .session) (a .p) (a .n) (a .buf .now) (a .out .now) to from d)
+    let to = c .before .before .before .before .before .before .before .before .lesser .ensures in
+    let from = c .before .before .before .before .before .before .before .lesser2 .ensures in
+    let a = c .before .before .before .before .before .before .before .before .before .before .before .args in
+    let s = sessionIn (a .t .now) (a .rec .now) (a .mark) in (
+      call-is s (a .p) (a .n) (a .buf .now) (a .out .now) to from d,
+      call-fits s (a .p) (a .n) (a .buf .now) (a .out .now) to from d,
+    )
 
 pub call-spec : {M : Type 1} → statement M
 call-spec =

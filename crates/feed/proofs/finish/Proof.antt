@@ -29,11 +29,10 @@ same-length c = search needs
 returns : tie.Need-returns
 returns c =
     let d = c .before .before .finish .ensures in
-    let b = c .before .before .before .before .before in
-    let to = b .before .lesser .ensures in
-    let from = b .lesser2 .ensures in
-    let a = b .before .before .before .before .args in
-    let e = finish-is (a .session) (a .p) (a .n) (a .buf .now) (a .out .now) to from d in
+    let to = c .before .before .before .before .before .before .lesser .ensures in
+    let from = c .before .before .before .before .before .lesser2 .ensures in
+    let a = c .before .before .before .before .before .before .before .before .before .args in
+    let e = finish-is (a .mark .phase) (a .mark .number) (a .p) (a .n) (a .buf .now) (a .out .now) to from d in
     (e, over-fits-in _ (a .out .now) (e .0) (e .1))
 
 pub finish-spec : {M : Type 1} → statement M

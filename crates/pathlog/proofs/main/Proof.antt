@@ -5,10 +5,10 @@ use Rattle.pathlog.proofs.main.Statement.{statement}
 use Rattle.pathlog.proofs.main.Tie as tie
 
 abbrev Inv-loop : tie.InvT-loop
-Inv-loop buf₀ out₀ session₀ p₀ n₀ turns₀ t17 buf out session p n turns = Unit {0}
+Inv-loop buf₀ out₀ settings₀ rec₀ mark₀ p₀ n₀ turns₀ t17 buf out settings rec mark p n turns = Unit {0}
 
 abbrev μ-loop : tie.MeasureT-loop
-μ-loop buf₀ out₀ session₀ p₀ n₀ turns₀ t17 buf out session p n turns = turns
+μ-loop buf₀ out₀ settings₀ rec₀ mark₀ p₀ n₀ turns₀ t17 buf out settings rec mark p n turns = turns
 
 slice-aggregate-buf : tie.Need-slice-aggregate-buf Inv-loop μ-loop
 slice-aggregate-buf c = search needs
@@ -98,13 +98,13 @@ returns-2 : tie.Need-returns-2 Inv-loop μ-loop
 returns-2 c = search needs
 
 loop-less : tie.Need-loop-less Inv-loop μ-loop
-loop-less c = let h = c .before .before .before .before .before .before .before .before .before .before .before .before .before .before .before .before .before .before .before .before .before .before .before .before .before .before .before .before .before .loop-test .taken in search needs
+loop-less c = let h = c .before .before .before .before .before .before .before .before .before .before .before .before .before .before .before .before .before .before .before .before .before .before .before .before .before .before .before .before .before .before .before .loop-test .taken in search needs
 
 loop-again : tie.Need-loop-again Inv-loop μ-loop
 loop-again c = search needs
 
 loop-less-2 : tie.Need-loop-less-2 Inv-loop μ-loop
-loop-less-2 c = let h = c .before .before .before .before .before .before .before .before .before .before .before .before .before .before .before .loop-test .taken in search needs
+loop-less-2 c = let h = c .before .before .before .before .before .before .before .before .before .before .before .before .before .before .before .before .before .loop-test .taken in search needs
 
 loop-again-2 : tie.Need-loop-again-2 Inv-loop μ-loop
 loop-again-2 c = search needs

@@ -5,8 +5,7 @@ use Prim.Native.Nat.{_-_}
 use Rattle.live.specs.Path.{withRing}
 use Rattle.live.specs.declared.types.Liveness.{Liveness}
 use Rattle.rows.proofs.ViewLaws.{ring-length}
-use Rattle.rowtimes.proofs.StoreLaws.{Storing, storing-start, storing-next, storing-end}
-use Rattle.rowsays.proofs.SaveLaws.{ring-part}
+use Rattle.rowsays.proofs.SaveLaws.{ring-part, Storing, storing-start, storing-next, storing-end}
 use Rattle.rowsays.proofs.set_ring.Statement.{statement}
 use Rattle.rowsays.proofs.set_ring.Tie as tie
 

@@ -1,13 +1,13 @@
 -- `pathrun::run::stop` meets its contract.
 -- Assumes nothing.
-use borrow.Author.Needs.{needs}
 use borrow.Author.Tests.{ne-eqb}
 use Rattle.pathrun.proofs.StopLaws.{waits-end, waits-event, waits-cut, stop-rest, stop-over}
+use borrow.Author.Needs.{needs}
 use Rattle.pathrun.proofs.run.stop.Statement.{statement}
 use Rattle.pathrun.proofs.run.stop.Tie as tie
 
-ran-requires : tie.Need-ran-requires
-ran-requires c κs = search needs
+call-at-requires : tie.Need-call-at-requires
+call-at-requires c κs = search needs
 
 enum-told : tie.Need-enum-told
 enum-told c = search needs
@@ -22,10 +22,7 @@ number-requires : tie.Need-number-requires
 number-requires c κs = search needs
 
 returns : tie.Need-returns
-returns c = let a = c .before .before .before .before .before .before .before .args in
-    stop-rest (a .settings) _ (a .number) (a .x) (a .place) _ (a .at) (waits-cut
-    (c .before .before .before .x2 .given .1) (c .before .number .ensures) (c .if1 .taken))
-    (c .before .before .before .before .before .ran .ensures)
+returns c = let a = c .before .before .before .before .before .before .before .args in stop-rest (a .number) (a .x) (a .place) _ (a .at) (waits-cut (c .before .before .before .x2 .given .1) (c .before .number .ensures) (c .if1 .taken)) (c .before .before .before .before .before .call-at .ensures)
 
 cast-lay : tie.Need-cast-lay
 cast-lay c = search needs
@@ -33,34 +30,26 @@ cast-lay c = search needs
 lay-requires : tie.Need-lay-requires
 lay-requires c κs = search needs
 
-ran-requires-2 : tie.Need-ran-requires-2
-ran-requires-2 c κs = search needs
+call-at-requires-2 : tie.Need-call-at-requires-2
+call-at-requires-2 c κs = search needs
 
 returns-2 : tie.Need-returns-2
-returns-2 c = let a = c .before .before .before .before .args in
-    stop-rest (a .settings) _ (a .number) (a .x) (a .place) _ (a .at) (waits-end (c .enum-told .given .1))
-    (c .before .before .ran .ensures)
+returns-2 c = let a = c .before .before .before .before .args in stop-rest (a .number) (a .x) (a .place) _ (a .at) (waits-end (c .enum-told .given .1)) (c .before .before .call-at .ensures)
 
 returns-3 : tie.Need-returns-3
-returns-3 c = let a = c .before .before .before .before .before .args in
-    stop-rest (a .settings) _ (a .number) (a .x) (a .place) _ (a .at) (waits-event (c .before .x .given .1))
-    (c .before .before .before .ran .ensures)
+returns-3 c = let a = c .before .before .before .before .before .args in stop-rest (a .number) (a .x) (a .place) _ (a .at) (waits-event (c .before .x .given .1)) (c .before .before .before .call-at .ensures)
 
 same-length : tie.Need-same-length
 same-length c = search needs
 
 returns-4 : tie.Need-returns-4
-returns-4 c = let a = c .before .before .before .before .before .before .before .before .before .before .before
-    .before .args in stop-over (a .settings) _ (a .number) (a .place) _ (a .at)
-    (c .before .before .before .before .before .before .before .before .x2 .given .1)
-    (c .before .before .before .before .before .before .number .ensures) (ne-eqb _ _
-    (c .before .before .before .before .before .if1 .left)) (c .before .before .before .lay .ensures) (c .ran2 .ensures)
+returns-4 c = let a = c .before .before .before .before .before .before .before .before .before .before .before .before .args in stop-over (a .number) (a .place) _ (a .at) (c .before .before .before .before .before .before .before .before .x2 .given .1) (c .before .before .before .before .before .before .number .ensures) (ne-eqb _ _ (c .before .before .before .before .before .if1 .left)) (c .before .before .before .lay .ensures) (c .call-at2 .ensures)
 
 pub stop-spec : {M : Type 1} → statement M
 stop-spec =
     tie.close
     (tie.spec
-    ran-requires
+    call-at-requires
     enum-told
     enum-known-x
     enum-known-x-2
@@ -68,7 +57,7 @@ stop-spec =
     returns
     cast-lay
     lay-requires
-    ran-requires-2
+    call-at-requires-2
     returns-2
     returns-3
     same-length

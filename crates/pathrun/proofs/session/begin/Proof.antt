@@ -1,7 +1,7 @@
 -- `pathrun::session::begin` meets its contract.
 -- Assumes nothing.
-use borrow.Author.Needs.{needs}
 use Rattle.pathrun.proofs.StopLaws.{begin-is}
+use borrow.Author.Needs.{needs}
 use Rattle.pathrun.proofs.session.begin.Statement.{statement}
 use Rattle.pathrun.proofs.session.begin.Tie as tie
 
@@ -9,7 +9,7 @@ new-requires : tie.Need-new-requires
 new-requires c κs = search needs
 
 returns : tie.Need-returns
-returns c = begin-is (c .before .new .ensures)
+returns c = let a = c .before .before .before .args in begin-is (a .t .now) (a .rec .now) (c .new .ensures .1) (c .new .ensures .2)
 
 pub begin-spec : {M : Type 1} → statement M
 begin-spec = tie.close (tie.spec new-requires returns)

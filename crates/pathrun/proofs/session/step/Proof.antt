@@ -4,8 +4,9 @@ use borrow.Author.Needs.{needs}
 use mathlib.Core.Bool.{true, false}
 use mathlib.Core.Path.{sym, _∙_}
 use borrow.Author.Tests.{eq-eqb, ne-eqb}
+use Rattle.pathrun.specs.Words.{sessionIn}
 use Rattle.pathrun.proofs.StepLaws.{step-as, step-stay, step-fresh, step-large, ran-small}
-use Rattle.pathrun.proofs.StepLaws.{ran-in, ran-short, ran-large, allowed-by, fresh-by}
+use Rattle.pathrun.proofs.StepLaws.{ran-in, ran-short, ran-large, allowed-by, fresh-by, kept-by}
 use Rattle.pathrun.proofs.session.step.Statement.{statement}
 use Rattle.pathrun.proofs.session.step.Tie as tie
 
@@ -13,10 +14,7 @@ stay-requires : tie.Need-stay-requires
 stay-requires c κs = search needs
 
 returns : tie.Need-returns
-returns c = let s = c .before .before .before .before .args .session in
-    let l = c .before .before .before .before .args .s .now in
-    let o = c .before .before .before .before .args .out .now in
-    step-stay _ s l o true (ran-small o s l (c .before .if1 .taken)) (c .stay .ensures)
+returns c = let a = c .before .before .before .before .args in let t = a .t .now in let w = a .rec .now in let s = sessionIn t w (a .mark) in let l = a .s .now in let o = a .out .now in step-stay _ t w (a .mark) l o true (ran-small o s l (c .before .if1 .taken)) (c .stay .ensures)
 
 enum-told : tie.Need-enum-told
 enum-told c = search needs
@@ -25,11 +23,7 @@ stay-requires-2 : tie.Need-stay-requires-2
 stay-requires-2 c κs = search needs
 
 returns-2 : tie.Need-returns-2
-returns-2 c = let s = c .before .before .before .before .before .before .before .before .args .session in
-    let l = c .before .before .before .before .before .before .before .before .args .s .now in
-    let o = c .before .before .before .before .before .before .before .before .args .out .now in
-    step-stay _ s l o false (ran-short o s l (c .before .before .before .before .before .if1 .left)
-    (c .before .before .enum-told .given .1) (c .before .if2 .taken)) (c .stay2 .ensures)
+returns-2 c = let a = c .before .before .before .before .before .before .before .args in let t = a .t .now in let w = a .rec .now in let s = sessionIn t w (a .mark) in let l = a .s .now in let o = a .out .now in step-stay _ t w (a .mark) l o false (ran-short o s l (c .before .before .before .before .if1 .left) (c .before .before .enum-told .given .1) (c .before .if2 .taken)) (c .stay2 .ensures)
 
 settings-from-requires : tie.Need-settings-from-requires
 settings-from-requires c κs = search needs
@@ -47,21 +41,7 @@ same-length : tie.Need-same-length
 same-length c = search needs
 
 returns-3 : tie.Need-returns-3
-returns-3 c = let s = c .before .before .before .before .before .before .before .before .before .before .before
-    .before .before .before .before .before .args .session in
-    let l = c .before .before .before .before .before .before .before .before .before .before .before .before .before
-    .before .before .before .args .s .now in let o = c .before .before .before .before .before .before .before
-    .before .before .before .before .before .before .before .before .before .args .out .now in
-    step-fresh o s l (c .before .before .before .before .before .before .before .before .before .before .before
-    .before .before .if1 .left) (c .before .before .before .before .before .before .before .before .before .before
-    .enum-told .given .1) (c .before .before .before .before .before .before .before .before .before .if2 .left)
-    (sym (allowed-by l (c .before .before .before .before .before .before .before .before .settings-from .ensures)
-    (c .before .before .before .before .before .before .before .new .ensures)
-    (c .before .before .before .before .before .number-of .ensures))
-    ∙ eq-eqb _ _ (c .before .before .before .before .if3 .taken)) (fresh-by l
-    (c .before .before .before .before .before .before .before .before .settings-from .ensures)
-    (c .before .before .before .before .before .before .before .new .ensures)
-    (c .before .before .before .before .before .number-of .ensures)) (c .before .before .run .ensures)
+returns-3 c = let a = c .before .before .before .before .before .before .before .before .before .before .before .before .before .before .before .before .before .before .args in let t = a .t .now in let w = a .rec .now in let s = sessionIn t w (a .mark) in let l = a .s .now in let o = a .out .now in let y = sym (allowed-by l (c .before .before .before .before .before .before .before .before .before .settings-from .ensures) (c .before .before .before .before .before .before .before .before .new .ensures .0) (c .before .before .before .before .before .before .before .number-of .ensures)) ∙ eq-eqb _ _ (c .before .before .before .before .before .before .if3 .taken) in step-fresh o s l (c .before .before .before .before .before .before .before .before .before .before .before .before .before .before .before .if1 .left) (c .before .before .before .before .before .before .before .before .before .before .before .before .before .enum-told .given .1) (c .before .before .before .before .before .before .before .before .before .before .before .before .if2 .left) y (fresh-by l t w (c .before .before .before .before .before .before .before .before .before .settings-from .ensures) y (c .before .before .before .before .before .before .before .before .new .ensures .1) (c .before .before .before .before .before .before .before .before .new .ensures .2)) (c .before .before .run .ensures)
 
 put-line-requires : tie.Need-put-line-requires
 put-line-requires c κs = search needs
@@ -82,38 +62,16 @@ same-length-2 : tie.Need-same-length-2
 same-length-2 c = search needs
 
 returns-4 : tie.Need-returns-4
-returns-4 c = let s = c .before .before .before .before .before .before .before .before .before .before .before
-    .before .before .before .before .before .args .session in
-    let l = c .before .before .before .before .before .before .before .before .before .before .before .before .before
-    .before .before .before .args .s .now in let o = c .before .before .before .before .before .before .before
-    .before .before .before .before .before .before .before .before .before .args .out .now in
-    step-large s l o (c .before .before .before .before .before .before .before .before .before .before .before
-    .before .before .if1 .left) (ran-large o s l (c .before .before .before .before .before .before .before .before
-    .before .before .before .before .before .if1 .left) (c .before .before .before .before .before .before .before
-    .before .before .before .enum-told .given .1) (c .before .before .before .before .before .before .before .before
-    .before .if2 .left) (sym (allowed-by l (c .before .before .before .before .before .before .before .before
-    .settings-from .ensures) (c .before .before .before .before .before .before .before .new .ensures)
-    (c .before .before .before .before .before .number-of .ensures))
-    ∙ ne-eqb _ _ (c .before .before .before .before .if3 .left))) (c .before .before .put-line .ensures .0)
-    (c .before .before .put-line .ensures .2)
+returns-4 c = let a = c .before .before .before .before .before .before .before .before .before .before .before .before .before .before .before .before .args in let t = a .t .now in let w = a .rec .now in let s = sessionIn t w (a .mark) in let l = a .s .now in let o = a .out .now in let y = sym (allowed-by l (c .before .before .before .before .before .before .before .settings-from .ensures) (c .before .before .before .before .before .before .new .ensures .0) (c .before .before .before .before .before .number-of .ensures)) ∙ ne-eqb _ _ (c .before .before .before .before .if3 .left) in let q = kept-by l t w (c .before .before .before .before .before .before .before .settings-from .ensures) y (c .before .before .before .before .before .before .new .ensures .1) (c .before .before .before .before .before .before .new .ensures .2) in step-large t w (a .mark) l o (c .before .before .before .before .before .before .before .before .before .before .before .before .before .if1 .left) (ran-large o s l (c .before .before .before .before .before .before .before .before .before .before .before .before .before .if1 .left) (c .before .before .before .before .before .before .before .before .before .before .before .enum-told .given .1) (c .before .before .before .before .before .before .before .before .before .before .if2 .left) y) (q .0) (q .1) (c .before .before .put-line .ensures .0) (c .before .before .put-line .ensures .2)
 
 same-length-3 : tie.Need-same-length-3
 same-length-3 c = search needs
 
 returns-5 : tie.Need-returns-5
-returns-5 c = let s = c .before .before .before .before .before .before .before .before .before .before .args
-    .session in let l = c .before .before .before .before .before .before .before .before .before .before .args .s
-    .now in let o = c .before .before .before .before .before .before .before .before .before .before .args .out .now
-    in step-as _ s l o (ran-in o s l (c .before .before .before .before .before .before .before .if1 .left)
-    (c .before .before .before .before .enum-told2 .given .1)) (c .before .before .run2 .ensures .0)
-    (c .before .before .run2 .ensures .1)
+returns-5 c = let a = c .before .before .before .before .before .before .before .before .before .before .before .args in let t = a .t .now in let w = a .rec .now in let s = sessionIn t w (a .mark) in let l = a .s .now in let o = a .out .now in step-as _ s l o (ran-in o s l (c .before .before .before .before .before .before .before .before .if1 .left) (c .before .before .before .before .before .before .enum-told2 .given .1)) (c .before .before .run2 .ensures .0) (c .before .before .run2 .ensures .1)
 
 returns-6 : tie.Need-returns-6
-returns-6 c = let s = c .before .before .before .before .before .before .before .args .session in
-    let l = c .before .before .before .before .before .before .before .args .s .now in
-    let o = c .before .before .before .before .before .before .before .args .out .now in
-    step-stay _ s l o false (ran-in o s l (c .before .before .before .before .if1 .left)
-    (c .before .enum-told3 .given .1)) (c .stay3 .ensures)
+returns-6 c = let a = c .before .before .before .before .before .before .args in let t = a .t .now in let w = a .rec .now in let s = sessionIn t w (a .mark) in let l = a .s .now in let o = a .out .now in step-stay _ t w (a .mark) l o false (ran-in o s l (c .before .before .before .if1 .left) (c .before .enum-told3 .given .1)) (c .stay3 .ensures)
 
 pub step-spec : {M : Type 1} → statement M
 step-spec =
