@@ -1,6 +1,6 @@
 -- The ring of a slot's rows closed up in place; all else stays.
 -- Assumes nothing.
-use Prim.Native.Nat.{ℕ, _+_, _-_, _<_, _≤_, min}
+use Prim.Native.Nat.{ℕ, _+_, _-_, _<_, _≤_, min, max}
 use mathlib.Core.Path.{_≡_, refl, ap, sym, _∙_}
 use mathlib.Core.List.{List, _++_}
 use mathlib.Core.Bool.{Bool, true, false, cond}
@@ -75,23 +75,29 @@ module _ {a b : List (List ℕ)} {w r : ℕ} (s : Shut a b w r) where
       ∙ ap (λ (i : ℕ). waiting (pathIn a .ring) ++ drop i (pathIn a .ring)) m in
       (m, says-as (s .says) (ap (λ (y : List Sent). withRing (pathIn a) y) q))
 
--- behind the first n places of a's ring b's is free up to k
+-- of b's first k places those behind the first n are free, and all others are a's
 pub record Freed (a : List (List ℕ)) (n : ℕ) (b : List (List ℕ)) (k : ℕ) : Type 0 where
   pub same : length (pathIn a .ring) ≡ 8
   pub says : Says a b (withRing (pathIn a) (pathIn b .ring))
-  pub ring : Clearing noSent (take (min n 8) (pathIn a .ring)) 8 (pathIn b .ring) (min k 8)
+  pub ring : Clearing noSent (take (min n 8) (pathIn a .ring)) 8 (pathIn b .ring) (min (max n k) 8)
 
-pub freed-start : {a : List (List ℕ)} {n : ℕ} → length a ≡ 65 → Freed a n a n
+pub freed-start : {a : List (List ℕ)} {n : ℕ} → length a ≡ 65 → Freed a n a 0
 freed-start {a} {n} h =
     let l = ring-length a h in
-    record { same = l; says = says-none refl; ring = clearing-start noSent {w = min n 8} l (omega arith) }
+    let m : min (max n 0) 8 ≡ min n 8 = omega arith in
+    record { same = l; says = says-none refl; ring = rw m (clearing-start noSent {w = min n 8} l (omega arith)) }
 
 module _ {a b : List (List ℕ)} {n k : ℕ} (s : Freed a n b k) where
-  pub freed-next : {c : List (List ℕ)} {free : Sent} → k < 8 → free ≡ noSent → Says b c (withRing (pathIn b) (set (pathIn b .ring) k free))
-      → Freed a n c (k + 1)
-  freed-next {c} {free} h e g =
-      let m : min k 8 ≡ k = omega arith in
-      let m′ : min (k + 1) 8 ≡ k + 1 = omega arith in
+  pub freed-skip : k < n → Freed a n b (k + 1)
+  freed-skip h =
+      let m : min (max n (k + 1)) 8 ≡ min (max n k) 8 = omega arith in
+      record { same = s .same; says = s .says; ring = rw m (s .ring) }
+
+  pub freed-next : {c : List (List ℕ)} {free : Sent} → k < 8 → n ≤ k → free ≡ noSent
+      → Says b c (withRing (pathIn b) (set (pathIn b .ring) k free)) → Freed a n c (k + 1)
+  freed-next {c} {free} h o e g =
+      let m : min (max n k) 8 ≡ k = omega arith in
+      let m′ : min (max n (k + 1)) 8 ≡ k + 1 = omega arith in
       let q : pathIn c .ring ≡ set (pathIn b .ring) k noSent = ring-is g ∙ ap (λ (y : Sent). set (pathIn b .ring) k y) e in
       let t : Clearing noSent (take (min n 8) (pathIn a .ring)) 8 (pathIn b .ring) k = rw m at (s .ring) in
       record { same = s .same; says = again (s .says) g; ring = rw (q, m′) (clearing-next noSent t h) }
@@ -99,7 +105,7 @@ module _ {a b : List (List ℕ)} {n k : ℕ} (s : Freed a n b k) where
   pub freed-end : 8 ≤ k → Says a b (withRing (pathIn a) (freedFrom n (pathIn a .ring)))
   freed-end h =
       let l = pathIn a .ring in
-      let m : 8 ≤ min k 8 = omega arith in
+      let m : 8 ≤ min (max n k) 8 = omega arith in
       let i : length (take (min n 8) l) ≡ min n 8 = length-take-le (min n 8) l (omega (arith, s .same)) in
       let j : 8 - length (take (min n 8) l) ≡ 8 - n = omega (arith, i) in
       let f : take (min n 8) l ≡ take n l =

@@ -30,17 +30,20 @@ fn press(p: &mut [[u64; 4]; ROWS]) -> usize
     w
 }
 
-// Frees the ring's places from one on.
+// Frees the ring's places from one on. Each is asked for by itself: one run of stores would become a call of `memset`.
 pub fn free_from(p: &mut [[u64; 4]; ROWS], from: usize)
     ensures { λ r. ⌜ Says (now (p .entry)) (now (p .exit))
         (withRing (pathIn (now (p .entry))) (freedFrom from (pathIn (now (p .entry)) .ring))) ⌝ }
 {
     rows(p);
     let free = ring::ring::none();
-    let mut k = from;
+    let mut k: usize = 0;
     while k < RING {
-        set_sent(p, k, free);
+        let i = k;
         k += 1;
+        if from <= i {
+            set_sent(p, i, free);
+        }
     }
 }
 
