@@ -79,7 +79,8 @@ struct hess_taken hess_record_bytes(const uint64_t settings[4], uint64_t slots[8
 
 /*
  * Writes the standing of a slot's path to `out`; the value is the count of bytes, at most 51, and bytes past them stay
- * as they are. Refused, with nothing written: 1, the slot is above 7; 2, it is empty; 16, `outlen` is too small.
+ * as they are. Refused, with nothing written: 1, the slot is above 7; 2, it is empty; 16, `outlen` is too small. (A
+ * compiler that is asked to be pedantic may warn, before C23, that a record which is not const is lent as one that is.)
  */
 struct hess_reply hess_record_standing(const uint64_t slots[8][65][4], uint8_t slot, uint8_t *out, size_t outlen);
 

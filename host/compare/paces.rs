@@ -28,11 +28,13 @@ use ours::Ours;
 use std::hint::black_box;
 use std::time::Instant;
 
-/// Events in a list, runs of which the median is taken, lists in a run; of by value fewer.
-const EVENTS: usize = 2_000;
+/// Events in a list, and runs of which the median is taken. A run is as many lists as take the Rust's
+/// record five milliseconds, and its time that of its median list, since some are broken into by
+/// other jobs; of by value so many files.
+const EVENTS: usize = 500;
 const RUNS: usize = 9;
-const LISTS: usize = 100;
-const FILES: usize = 4;
+const SPAN: f64 = 5e6;
+const FILES: usize = 5;
 const SECOND: u64 = 1_000_000_000;
 /// Cap, gap, window, horizon.
 const SETTINGS: [u64; 4] = [100, SECOND, 1 << 60, 60 * SECOND];
@@ -190,24 +192,19 @@ fn times(before: &[Event], events: &[Event]) -> [f64; 3] {
         assert_eq!((reply.number, reply.value), rust.event(event));
     }
     let file = Filed::new(SETTINGS, [before, events].concat(), || 0);
-    let lent = 16 * file.events.len() + SLOTS * 52;
     let mut ours = Ours::default();
     let mut all = [const { Vec::new() }; 3];
-    for _ in 0..RUNS {
-        let (a, sum) = run(LISTS, events, || {
-            let mut words = words.clone();
-            events.iter().map(|e| words.event(black_box(e)).value).sum()
-        });
-        let (b, same) = run(LISTS, events, || {
-            let mut rust = rust.clone();
-            events.iter().map(|e| rust.event(black_box(e)).1).sum()
-        });
+    let mut lists = 1;
+    for n in 0..=RUNS {
+        let (a, sum) = run(lists, events, &words, |words, e| words.event(e).value);
+        let (b, same) = run(lists, events, &rust, |rust, e| rust.event(e).1);
         assert_eq!(sum, same, "ours differs from the Rust's");
-        let (c, _) = run(FILES, &file.events, || {
-            let (reply, _) = ours.run(&file.bytes, lent).expect("a whole file");
-            assert_eq!(reply.number, 0);
-            reply.value
-        });
+        let c = median((0..FILES).map(|_| by_value(&mut ours, &file)).collect());
+        // The first run only says how many lists the others have.
+        if n == 0 {
+            lists = 1 + (SPAN / (b * events.len() as f64)) as usize;
+            continue;
+        }
         for (all, time) in all.iter_mut().zip([a, b, c]) {
             all.push(time);
         }
@@ -215,14 +212,35 @@ fn times(before: &[Event], events: &[Event]) -> [f64; 3] {
     all.map(median)
 }
 
-/// Nanoseconds an event over so many lists, and what their values come to.
-fn run(lists: usize, events: &[Event], mut list: impl FnMut() -> u64) -> (f64, u64) {
-    let start = Instant::now();
-    let sum = (0..lists)
-        .map(|_| black_box(list()))
-        .fold(0, u64::wrapping_add);
-    let time = start.elapsed().as_nanos() as f64;
-    (time / (lists * events.len()) as f64, sum)
+/// Nanoseconds an event in the median of so many lists, each from a copy made before the clock starts,
+/// and what the values come to.
+fn run<S: Clone>(
+    lists: usize,
+    events: &[Event],
+    start: &S,
+    event: impl Fn(&mut S, &Event) -> u64,
+) -> (f64, u64) {
+    let (mut times, mut sum) = (Vec::new(), 0);
+    for _ in 0..lists {
+        let mut state = black_box(start.clone());
+        let clock = Instant::now();
+        for e in events {
+            sum += event(&mut state, black_box(e));
+        }
+        times.push(clock.elapsed().as_nanos() as f64 / events.len() as f64);
+        black_box(&state);
+    }
+    (median(times), sum)
+}
+
+/// Nanoseconds an event of a whole file through `hess_events`.
+fn by_value(ours: &mut Ours, file: &Filed) -> f64 {
+    let lent = 16 * file.events.len() + SLOTS * 52;
+    let clock = Instant::now();
+    let (reply, _) = ours.run(&file.bytes, lent).expect("a whole file");
+    let time = clock.elapsed().as_nanos() as f64;
+    assert_eq!(reply.number, 0);
+    time / file.events.len() as f64
 }
 
 fn median(mut times: Vec<f64>) -> f64 {

@@ -56,6 +56,7 @@ pub taken-event : (t : List ℕ) (a b : List (List (List ℕ))) (p : Parse) (e :
 taken-event t a b p e size x n v h q i j =
     let m : n ≡ numberOf (step (recordIn t a) e .reply) = i ∙ ap numberOf (q .answer) in
     let w : v ≡ valueOf (step (recordIn t a) e .reply) = j ∙ ap valueOf (q .answer) in
-    let same : takenWith n v size ≡ takenBy (recordIn t a) (parse.Event e size) = λ k. takenWith (m k) (w k) size in
-    (same ∙ sym (ap (takenBy (recordIn t a)) h),
-      subst (TakenHere t a b) (sym h) (told t a b x (step (recordIn t a) e) q))
+    let same : takenWith n v size ≡ takenBy (recordIn t a) (parse.Event e size) = λ k. takenWith (m k) (w k) size in (
+      same ∙ sym (ap (takenBy (recordIn t a)) h),
+      subst (TakenHere t a b) (sym h) (told t a b x (step (recordIn t a) e) q),
+    )

@@ -12,8 +12,8 @@ ghost use Rattle.rowpeer.specs.Record.{recordIn, recordRows};
 ghost use Rattle.entries.specs.Events.{writtenReply};
 ghost use Rattle.entries.specs.Record.{recordSize, settingsWith, eventWith, replyOf, noneTaken, TakenHere};
 ghost use Rattle.entries.specs.Record.{StepsHere, takenBy};
-use base::types::Refusal;
 use crate::Reply;
+use base::types::Refusal;
 use eventfile::types::Parse;
 use rules::types::Event;
 use rules::types::Settings;
@@ -112,7 +112,11 @@ fn none_taken(why: Refusal) -> Taken
 // The event whose record the bytes begin with, and how many bytes that record has: 13 for too few of them or none, 15,
 // 14; on these no byte counts as read and no word changes.
 #[no_mangle]
-pub extern "C" fn hess_record_bytes(settings: &[u64; 4], slots: &mut [[[u64; 4]; 65]; 8], event: &[u8]) -> Taken
+pub extern "C" fn hess_record_bytes(
+    settings: &[u64; 4],
+    slots: &mut [[[u64; 4]; 65]; 8],
+    event: &[u8],
+) -> Taken
     ensures { λ r. let found = parseOf (now (event .entry)) 0 in
         ⌜ (r ≡ takenBy (recordIn (now (settings .entry)) (now (slots .entry))) found)
         × TakenHere (now (settings .entry)) (now (slots .entry)) (now (slots .exit)) found ⌝ }
@@ -135,7 +139,11 @@ pub extern "C" fn hess_record_bytes(settings: &[u64; 4], slots: &mut [[[u64; 4];
 // Writes the standing of a slot's path; the value is the count of bytes. 1 for a slot above 7, 2 for an empty one, 16
 // for too few lent bytes; a refusal writes nothing.
 #[no_mangle]
-pub extern "C" fn hess_record_standing(slots: &[[[u64; 4]; 65]; 8], slot: u8, out: &mut [u8]) -> Reply
+pub extern "C" fn hess_record_standing(
+    slots: &[[[u64; 4]; 65]; 8],
+    slot: u8,
+    out: &mut [u8],
+) -> Reply
     ensures { λ r. let held = recordIn [] (now (slots .entry)) in
         ⌜ (r ≡ writtenReply (slotWritten held slot (length (now (out .entry)))))
         × (now (out .exit) ≡ slotOut held slot (now (out .entry))) ⌝ }
