@@ -38,11 +38,13 @@ turns-as s e =
 -- ---- probe
 
 module _ (a : List (List ℕ)) (at due n draw : ℕ) where
+  -- 5: too long
   pub send-long : maxLen < n → Turns a a (reply.Refused Length) (turnBy (slotIn a) (sendOf (pathIn a) at due n draw))
   unfolding sendOf
   send-long h = rw (lt-ltb maxLen n h) (turns-none refl refl)
 
   module _ (h : n ≤ maxLen) {slot : ℕ} (f : slot ≡ firstFree (pathIn a .ring)) where
+    -- 8: eight wait
     pub send-full : maxWaiting ≤ slot → Turns a a (reply.Refused Full) (turnBy (slotIn a) (sendOf (pathIn a) at due n draw))
     unfolding sendOf
     send-full k = rw (le-ltb maxLen n h, sym f, le-leb maxWaiting slot k) (turns-none refl refl)
@@ -53,6 +55,7 @@ module _ (a : List (List ℕ)) (at due n draw : ℕ) where
     unfolding sendOf
     send-free k {id} e = rw (e, le-ltb maxLen n h, sym f, lt-leb maxWaiting slot k)
 
+    -- the probe stored, with the identifiers, the silence clock and the ladder
     pub send-made : {b c d e : List (List ℕ)} {old kept after : Ids} {id t : ℕ} {before : MaybeTime} {l : Ladder}
         → slot < maxWaiting
         → old ≡ pathIn a .ids
@@ -87,6 +90,7 @@ module _ (a : List (List ℕ)) (at due n draw : ℕ) where
 -- ---- answer
 
 module _ (a : List (List ℕ)) (id : ℕ) {slot : ℕ} (f : slot ≡ found id (pathIn a .ring)) where
+  -- in the ring: taken out, with the identifiers and the misses
   pub answer-in-time : {b c d : List (List ℕ)} {old after : Ids}
       → slot < maxWaiting
       → old ≡ pathIn a .ids
@@ -102,6 +106,7 @@ module _ (a : List (List ℕ)) (id : ℕ) {slot : ℕ} (f : slot ≡ found id (p
       rw (sym f, lt-ltb slot maxWaiting h, sym m′) (turns-by s refl refl)
 
   module _ (h : maxWaiting ≤ slot) {place : ℕ} (g : place ≡ found id (pathIn a .late)) where
+    -- in the late list: taken out
     pub answer-late : {b : List (List ℕ)} {free : Sent} → place < maxLate → free ≡ noSent
         → Says a b (withLate (pathIn a) (set (pathIn a .late) place free))
         → Turns a b reply.Late (turnBy (slotIn a) (answerOf (pathIn a) id))
@@ -109,17 +114,20 @@ module _ (a : List (List ℕ)) (id : ℕ) {slot : ℕ} (f : slot ≡ found id (p
     answer-late {b} {free} k e s =
         rw (sym f, le-ltb slot maxWaiting h, sym g, lt-ltb place maxLate k, sym e) (turns-by s refl refl)
 
+    -- 9: in neither
     pub answer-unknown : maxLate ≤ place → Turns a a (reply.Refused Unknown) (turnBy (slotIn a) (answerOf (pathIn a) id))
     unfolding answerOf
     answer-unknown k = rw (sym f, le-ltb slot maxWaiting h, sym g, le-ltb place maxLate k) (turns-none refl refl)
 
 -- ---- thaw and sweep
 
+-- the identifiers stored
 pub thaw-made : {a b : List (List ℕ)} {old after : Ids} → old ≡ pathIn a .ids → after ≡ thawedIds old → Says a b (withIds (pathIn a) after)
     → Turns a b reply.Nothing (turn (slotIn a) (thawOf (pathIn a)) reply.Nothing)
 thaw-made {a} {b} {old} {after} o m s =
     turns-by (says-as s (ap (λ (z : Ids). withIds (pathIn a) z) (m ∙ ap (λ (z : Ids). thawedIds z) o))) refl refl
 
+-- the late list stored, and the ring freed
 pub sweep-made : {a b c : List (List ℕ)} {ring old after : List Sent} {n : ℕ}
     → ring ≡ pathIn a .ring
     → old ≡ pathIn a .late

@@ -42,6 +42,7 @@ pub record ScanTo (p : Sent → Bool) (f : Sent → MaybeTime) (a b : List (List
   pub says : Says a b (withRing (pathIn a) (pathIn b .ring))
   pub ring : Scanning p f (pathIn a .ring) 8 (pathIn b .ring)
 
+-- nothing is deferred yet
 pub scan-start : (cap at : ℕ) (overdue : Bool) (t : MaybeTime) (a : List (List ℕ)) → length a ≡ 65
     → ScanTo (isPassed at overdue) (deferOf t cap at overdue) a a
 scan-start cap at overdue t a h =
@@ -52,25 +53,31 @@ module _ {p : Sent → Bool} {f : Sent → MaybeTime} {a b : List (List ℕ)} {i
   done-at : {l : Scanned} → record { ring = pathIn b .ring; slot = i } ≡ l → (i ≡ l .slot) × Says a b (withRing (pathIn a) (l .ring))
   done-at q = (ap (λ (x : Scanned). x .slot) q, says-as (s .says) (ap (λ (x : Scanned). withRing (pathIn a) (x .ring)) q))
 
+  -- none has passed
   pub scan-none : 8 ≤ i → (i ≡ scanOf p f (pathIn a .ring) .slot) × Says a b (withRing (pathIn a) (scanOf p f (pathIn a .ring) .ring))
   scan-none h = done-at (scanning-none (s .ring) e h)
 
   module _ (h : i < 8) {x : Sent} (g : x ≡ getD (pathIn b .ring) i noSent) where
+    -- one has passed that is not deferred: it lapses
     pub scan-stop : f x ≡ time.None → (i ≡ scanOf p f (pathIn a .ring) .slot) × Says a b (withRing (pathIn a) (scanOf p f (pathIn a .ring) .ring))
     scan-stop d = done-at (scanning-lapses noSent (s .ring) e h (ap f (sym g) ∙ d))
 
     module _ (u : ℕ) (d : f x ≡ time.Some u) {c : List (List ℕ)} (k : Says b c (withRing (pathIn b) (set (pathIn b .ring) i (withDue x u)))) where
+      -- the ring after it is deferred
       deferred : pathIn c .ring ≡ set (pathIn b .ring) i (withDue (getD (pathIn b .ring) i noSent) u)
       deferred = ring-is k ∙ ap (λ (y : Sent). set (pathIn b .ring) i (withDue y u)) g
 
+      -- one is deferred, and the scan goes on
       pub scan-next : ScanTo p f a c
       scan-next = record { says = again (s .says) k; ring = rw deferred (scanning-defers noSent (s .ring) e h u (ap f (sym g) ∙ d)) }
 
+      -- and fewer have passed
       pub scan-less : length (keep p (pathIn c .ring)) < length (keep p (pathIn b .ring))
       scan-less = rw deferred (scanning-less noSent (s .ring) e h u (ap f (sym g) ∙ d))
 
 -- ---- the lapse
 
+-- the probe taken out and remembered, with the ladder and the misses
 pub lapse-made : (a : List (List ℕ)) (slot : ℕ) {b c d e : List (List ℕ)} {s : Sent} {m : Ids} {miss fall : Bool} {l : Ladder} {before after : ℕ}
     → s ≡ getD (pathIn a .ring) slot noSent
     → m ≡ pathIn a .ids
@@ -104,6 +111,7 @@ lapse-made a slot {b} {c} {d} {e} {s} {m} {miss} {fall} {l} {before} {after} q i
 -- ---- expire
 
 module _ (a : List (List ℕ)) (at : ℕ) (overdue : Bool) (cap : ℕ) where
+  -- 6: the cap is too long
   pub expire-long : durationEnd ≤ cap
       → (false ≡ hasLapsed (expireOf (pathIn a) at overdue cap .answer)) × Says a a (expireOf (pathIn a) at overdue cap .path)
   unfolding expireOf
@@ -118,14 +126,17 @@ module _ (a : List (List ℕ)) (at : ℕ) (overdue : Bool) (cap : ℕ) where
         (λ k. record { ring = ring-is (g .1) k; slot = g .0 k })
         ∙ ap (λ (x : MaybeTime). scanOf (isPassed at overdue) (deferOf x cap at overdue) (pathIn a .ring)) f
 
+    -- all else stayed
     kept : Says a b (withRing (pathIn a) (pathIn b .ring))
     kept = says-as (g .1) (ap (λ (x : List Sent). withRing (pathIn a) x) (sym (ring-is (g .1))))
 
+    -- none lapses
     pub expire-none : maxWaiting ≤ slot
         → (false ≡ hasLapsed (expireOf (pathIn a) at overdue cap .answer)) × Says a b (expireOf (pathIn a) at overdue cap .path)
     unfolding expireOf
     expire-none k = rw (lt-leb durationEnd cap h, sym scanned, le-leb maxWaiting slot k) (refl, kept)
 
+    -- one lapses
     pub expire-made : {c : List (List ℕ)} → slot < maxWaiting
         → Says b c (lapsedIn b slot)
         → (true ≡ hasLapsed (expireOf (pathIn a) at overdue cap .answer)) × Says a c (expireOf (pathIn a) at overdue cap .path)
@@ -142,6 +153,7 @@ pub record PollTo (a : List (List ℕ)) (at : ℕ) (overdue : Bool) (cap : ℕ) 
   pub says : Says a b (pathIn b)
   pub done : Polled (pathIn a) at overdue cap (pathIn b) n
 
+-- nothing has lapsed yet
 pub poll-start : (a : List (List ℕ)) (at : ℕ) (overdue : Bool) (cap : ℕ) → PollTo a at overdue cap a 0
 poll-start a at overdue cap = record { says = says-none refl; done = polled-start (pathIn a) at overdue cap }
 
@@ -151,17 +163,21 @@ module _ {a : List (List ℕ)} {at : ℕ} {overdue : Bool} {cap : ℕ} {b : List
       → Turns a c (reply.Count n) (polled (slotIn a) (wholePoll (pathIn a) at overdue cap))
   ended k e = turns-as (turns-by k refl refl) (ap (λ (x : Polling). polled (slotIn a) x) e)
 
+  -- nine have lapsed
   pub poll-end : 9 ≤ n → Turns a b (reply.Count n) (polled (slotIn a) (wholePoll (pathIn a) at overdue cap))
   poll-end h = ended (s .says) (polled-end (s .done) h)
 
   module _ (h : n < 9) {t : Bool} {c : List (List ℕ)}
       (g : (t ≡ hasLapsed (expireOf (pathIn b) at overdue cap .answer)) × Says b c (expireOf (pathIn b) at overdue cap .path)) where
+    -- the rows after one more `expire`
     after : Says a c (pathIn c)
     after = says-as (says-then (s .says) (g .1)) (sym (g .1 .path))
 
+    -- one more lapsed
     pub poll-next : t ≡ true → PollTo a at overdue cap c (n + 1)
     poll-next e = record { says = after; done = rw (g .1 .path) (polled-next (s .done) h refl (sym (g .0) ∙ e)) }
 
+    -- none lapsed
     pub poll-none : t ≡ false → Turns a c (reply.Count n) (polled (slotIn a) (wholePoll (pathIn a) at overdue cap))
     poll-none e =
         ended after ((λ k. record { path = g .1 .path k; lapses = n }) ∙ polled-none (s .done) h refl (sym (g .0) ∙ e))

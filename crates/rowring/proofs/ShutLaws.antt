@@ -43,14 +43,17 @@ pub record Shut (a b : List (List ℕ)) (w r : ℕ) : Type 0 where
   pub ring : Closing isUsed (pathIn a .ring) 8 (pathIn b .ring) w r
   pub back : drop w (pathIn b .ring) ≡ drop w (pathIn a .ring)
 
+-- nothing is moved yet
 pub shut-start : {a : List (List ℕ)} → length a ≡ 65 → Shut a a 0 0
 shut-start {a} h = record { says = says-none refl; ring = closing-start (ring-length a h); back = refl }
 
 module _ {a b : List (List ℕ)} {w r : ℕ} (s : Shut a b w r) where
   module _ (h : r < 8) {x : Sent} (e : x ≡ getD (pathIn b .ring) r noSent) where
+    -- a free place is passed by
     pub shut-skip : x .used ≡ false → Shut a b w (r + 1)
     shut-skip f = record { says = s .says; ring = closing-skip noSent (s .ring) h (ap isUsed (sym e) ∙ f); back = s .back }
 
+    -- a waiting probe moves to the front
     pub shut-move : {c : List (List ℕ)} → x .used ≡ true → Says b c (withRing (pathIn b) (set (pathIn b .ring) w x))
         → Shut a c (w + 1) (r + 1)
     shut-move {c} f g =
@@ -64,6 +67,7 @@ module _ {a b : List (List ℕ)} {w r : ℕ} (s : Shut a b w r) where
           back = ap (λ (y : List Sent). drop (w + 1) y) q ∙ drop-set-lt (w + 1) l w (getD l r noSent) (omega arith) ∙ z;
         }
 
+  -- all places are seen
   pub shut-end : 8 ≤ r → (w ≡ length (waiting (pathIn a .ring))) × Says a b (withRing (pathIn a) (pressed (pathIn a .ring)))
   shut-end h =
       let k = s .ring in
@@ -81,6 +85,7 @@ pub record Freed (a : List (List ℕ)) (n : ℕ) (b : List (List ℕ)) (k : ℕ)
   pub says : Says a b (withRing (pathIn a) (pathIn b .ring))
   pub ring : Clearing noSent (take (min n 8) (pathIn a .ring)) 8 (pathIn b .ring) (min (max n k) 8)
 
+-- no place is freed yet
 pub freed-start : {a : List (List ℕ)} {n : ℕ} → length a ≡ 65 → Freed a n a 0
 freed-start {a} {n} h =
     let l = ring-length a h in
@@ -88,11 +93,13 @@ freed-start {a} {n} h =
     record { same = l; says = says-none refl; ring = rw m (clearing-start noSent {w = min n 8} l (omega arith)) }
 
 module _ {a b : List (List ℕ)} {n k : ℕ} (s : Freed a n b k) where
+  -- a place before the first n stays
   pub freed-skip : k < n → Freed a n b (k + 1)
   freed-skip h =
       let m : min (max n (k + 1)) 8 ≡ min (max n k) 8 = omega arith in
       record { same = s .same; says = s .says; ring = rw m (s .ring) }
 
+  -- one more is freed
   pub freed-next : {c : List (List ℕ)} {free : Sent} → k < 8 → n ≤ k → free ≡ noSent
       → Says b c (withRing (pathIn b) (set (pathIn b .ring) k free)) → Freed a n c (k + 1)
   freed-next {c} {free} h o e g =
@@ -102,6 +109,7 @@ module _ {a b : List (List ℕ)} {n k : ℕ} (s : Freed a n b k) where
       let t : Clearing noSent (take (min n 8) (pathIn a .ring)) 8 (pathIn b .ring) k = rw m at (s .ring) in
       record { same = s .same; says = again (s .says) g; ring = rw (q, m′) (clearing-next noSent t h) }
 
+  -- all places are seen
   pub freed-end : 8 ≤ k → Says a b (withRing (pathIn a) (freedFrom n (pathIn a .ring)))
   freed-end h =
       let l = pathIn a .ring in
@@ -137,14 +145,17 @@ dropped-some l {m} {x} {t} e f = f ∙ sym (ap (λ (y : MaybeId). isDropped y l)
 
 -- the identifiers with `since` dropped where there is one to be dropped, else as they are
 module _ (m : Ids) (l : List Sent) where
+  -- where one is to be dropped every waiting probe counts
   by-since : (x : MaybeId) → m .since ≡ x → {t : Bool} → t ≡ isDropped x l → (t ≡ true → allCount (m .since) l ≡ true)
   by-since id.None e {t} f g = let y : true ≡ false = sym g ∙ f in cc
   by-since (id.Some x) e {t} f g = rw e (sym f ∙ g)
 
+  -- `since` is dropped
   pub drop-some : {t : Bool} → t ≡ isDropped (m .since) l → t ≡ true
       → record { «next_id» = m .«next_id»; answered = m .answered; epoch = m .epoch; since = id.None } ≡ dropSince m l
   drop-some f g = rw (by-since (m .since) refl f g)
 
+  -- where none is to be dropped the rule leaves the identifiers
   kept : (x : MaybeId) → m .since ≡ x → {t : Bool} → t ≡ isDropped x l → t ≡ false → m ≡ dropSince m l
   kept id.None e {t} f g =
       let z : m ≡ record { «next_id» = m .«next_id»; answered = m .answered; epoch = m .epoch; since = id.None } =
@@ -154,5 +165,6 @@ module _ (m : Ids) (l : List Sent) where
       let y : allCount (m .since) l ≡ false = rw e (sym f ∙ g) in
       rw y
 
+  -- `since` stays
   pub drop-none : {t : Bool} → t ≡ isDropped (m .since) l → t ≡ false → m ≡ dropSince m l
   drop-none f g = kept (m .since) refl f g
