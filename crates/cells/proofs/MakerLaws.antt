@@ -172,7 +172,7 @@ pub stop-made : {m : MaybeStop} {s : Stop} {k t v : ℕ} → m ≡ stop.Some s �
 unfolding stopRow untilRow
 stop-made {m} {s} {k} {t} {v} e f g h =
     let a : k ∷ s .free ∷ s .gap ∷ s .used ∷ [] ≡ stopRow m =
-        (λ j. f j ∷ s .free ∷ s .gap ∷ s .used ∷ []) ∙ ap stopRow (sym e) in
+    (λ j. f j ∷ s .free ∷ s .gap ∷ s .used ∷ []) ∙ ap stopRow (sym e) in
     let b : t ∷ v ∷ 0 ∷ 0 ∷ [] ≡ untilRow m =
-        (λ j. g j ∷ h j ∷ 0 ∷ 0 ∷ []) ∙ ap untilRow (sym e) in
+    (λ j. g j ∷ h j ∷ 0 ∷ 0 ∷ []) ∙ ap untilRow (sym e) in
     (a, b, (λ j. stopIn (a j) (b j)) ∙ stop-says m)

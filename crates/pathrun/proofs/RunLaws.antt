@@ -111,7 +111,7 @@ module _ {l₀ l t : List ℕ} {a₀ : List (List (List ℕ))} {n₀ p₀ most :
   going-full {r} h q =
       let z : most - i ≡ 0 = omega arith in
       let k : ranFrom (length l₀ / 84) l [] (recordIn t a₀) n₀ p₀
-          ≡ callEnd (g .text) (sessionOf phase.Running (recordIn t a) n) p true =
+      ≡ callEnd (g .text) (sessionOf phase.Running (recordIn t a) n) p true =
       g .is ∙ (λ j. ranFrom (z j) l (g .text) (recordIn t a) n p) in (
         ap (runIn t a) q
             ∙ (λ j. record {

@@ -25,10 +25,10 @@ answers t (x ∷ c) a d h =
     let s : Steps t a (h .0) (x .reply) (step (recordIn t a) (x .event)) = h .1 in
     (λ k. record { event = x .event; number = numberOf (s .answer k); value = valueOf (s .answer k) } ∷ entriesIn c)
     ∙ ap (λ (z : List Entry). record {
-        event = x .event;
-        number = numberOf (step (recordIn t a) (x .event) .reply);
-        value = valueOf (step (recordIn t a) (x .event) .reply);
-      } ∷ z)
+      event = x .event;
+      number = numberOf (step (recordIn t a) (x .event) .reply);
+      value = valueOf (step (recordIn t a) (x .event) .reply);
+    } ∷ z)
     (answers t c (h .0) d (h .2) ∙ ap (λ (r : Record). trace r (eventsIn c)) (s .next))
 
 -- the record that the words say after them is that of `run`
@@ -50,7 +50,7 @@ pub calls-hold : CallsHold
 calls-hold t c d ok h =
     let a = recordRows (freshRecord (settingsIn t)) in
     let q : recordIn t d ≡ run (freshRecord (settingsIn t)) (eventsIn c) =
-        says t c a d h ∙ ap (λ (r : Record). run r (eventsIn c)) (fresh-says t) in
+    says t c a d h ∙ ap (λ (r : Record). run r (eventsIn c)) (fresh-says t) in
     record {
       answers = answers t c a d h ∙ ap (λ (r : Record). trace r (eventsIn c)) (fresh-says t);
       says = q;

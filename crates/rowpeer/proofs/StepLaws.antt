@@ -68,8 +68,8 @@ module _ (t : List ℕ) (a : List (List (List ℕ))) (e : Event) where
       let p : i < length (map slotIn a) = omega (arith, n, length-map a slotIn) in
       let v : Turn = onSlot s (slotIn (getD a i [])) e in
       let f : step (recordIn t a) e ≡ put (recordIn t a) i v =
-          step-in (recordIn t a) e (slotIn []) k p
-          ∙ (λ j. put (recordIn t a) i (onSlot (sym g j) (List·getD-map slotIn a i [] j) e)) in
+      step-in (recordIn t a) e (slotIn []) k p
+      ∙ (λ j. put (recordIn t a) i (onSlot (sym g j) (List·getD-map slotIn a i [] j) e)) in
       record {
         answer = u .answer ∙ sym (ap (λ (z : Stepped). z .reply) f);
         next =
@@ -79,9 +79,9 @@ module _ (t : List ℕ) (a : List (List (List ℕ))) (e : Event) where
         coded =
             λ c.
             let w : slotRows (slotIn (getD a i [])) ≡ getD a i [] =
-                sym (List·getD-map slotRows (map slotIn a) i (slotIn []) ∙ ap slotRows (List·getD-map slotIn a i []))
-                ∙ ap (λ (z : List (List (List ℕ))). getD z i (slotRows (slotIn []))) c
-                ∙ getD-any a i (slotRows (slotIn [])) [] o in
+            sym (List·getD-map slotRows (map slotIn a) i (slotIn []) ∙ ap slotRows (List·getD-map slotIn a i []))
+            ∙ ap (λ (z : List (List (List ℕ))). getD z i (slotRows (slotIn []))) c
+            ∙ getD-any a i (slotRows (slotIn [])) [] o in
             ap (map slotRows) (map-set slotIn a i q)
             ∙ map-set slotRows (map slotIn a) i (slotIn q)
             ∙ (λ j. set (c j) i (u .coded w j));

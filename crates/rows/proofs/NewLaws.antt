@@ -43,12 +43,11 @@ new-says e m = refl
 pub new-made : (used : Bool) (l : Label) {p : List (List ℕ)} {e m : List ℕ} → p ≡ emptyRows → (e ≡ etxRow one) × (etxIn e ≡ one)
     → (m ≡ markRow used l) × (usedIn m ≡ used) × (labelIn m ≡ l)
     → (set (set p 22 e) 64 m ≡ slotRows (newSlot used l)) × (slotIn (set (set p 22 e) 64 m) ≡ newSlot used l)
-new-made used l {p} {e} {m} a b c =
-    (
-      (λ k. set (set (a k) 22 (b .0 k)) 64 (c .0 k)) ∙ new-words used l,
-      (λ k. slotIn (set (set (a k) 22 e) 64 m)) ∙ new-says e m
+new-made used l {p} {e} {m} a b c = (
+  (λ k. set (set (a k) 22 (b .0 k)) 64 (c .0 k)) ∙ new-words used l,
+  (λ k. slotIn (set (set (a k) 22 e) 64 m)) ∙ new-says e m
       ∙ (λ k. record { path = withEtx newLiveness (b .1 k); label = c .2 k; used = c .1 k }),
-    )
+)
 
 -- the rows of an empty slot say it
 pub empty-says : slotIn (slotRows emptySlot) ≡ emptySlot

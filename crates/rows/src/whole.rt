@@ -4,9 +4,9 @@ ghost use Rattle.live.specs.New.{newLiveness};
 ghost use Rattle.rules.specs.Rules.{emptySlot};
 ghost use Rattle.rows.specs.View.{slotIn};
 ghost use Rattle.rows.specs.Encode.{slotRows, emptyRows};
+use crate::probes::*;
 use cells::marks::*;
 use cells::measures::etx_row;
-use crate::probes::*;
 use rules::types::*;
 use select::types::*;
 

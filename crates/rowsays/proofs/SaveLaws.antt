@@ -112,9 +112,9 @@ slot-saved s {b} {c} {d} n t u =
     let w = says-then t u in
     let p : pathIn d ≡ s .path = u .path ∙ ap (λ (x : Liveness). measuredWith x (s .path)) (t .path) in
     let l : slotIn d ≡ record { path = s .path; label = slotIn b .label; used = slotIn b .used } =
-        λ k. record { path = p k; label = labelIn (w .marks k); used = usedIn (w .marks k) } in
+    λ k. record { path = p k; label = labelIn (w .marks k); used = usedIn (w .marks k) } in
     let m : slotIn d ≡ s =
-        l ∙ (λ k. record { path = s .path; label = n .1 k .label; used = n .1 k .used }) in
+    l ∙ (λ k. record { path = s .path; label = n .1 k .label; used = n .1 k .used }) in
     let o : slotRows (slotIn d) ≡ d = w .coded (ap slotRows (n .1) ∙ sym (n .0)) in
     (sym o ∙ ap slotRows m, m)
 
@@ -147,5 +147,5 @@ pub record-saved : (r : Record) {i : ℕ} → Said (r .slots) i → 8 ≤ i
 record-saved r {i} s h =
     let t : take i (r .slots) ≡ r .slots = take-all i (r .slots) (omega (arith, s .eight)) in
     let e : map slotIn (map slotRows (r .slots)) ≡ r .slots =
-        ap (λ (z : List Slot). map slotIn (map slotRows z)) (sym t) ∙ s .some ∙ t in
+    ap (λ (z : List Slot). map slotIn (map slotRows z)) (sym t) ∙ s .some ∙ t in
     λ k. record { settings = settings-says (r .settings) k; slots = e k }

@@ -10,11 +10,11 @@ ghost use Rattle.rowpeer.specs.Record.{recordIn, recordRows};
 ghost use Rattle.rowsays.specs.Probed.{probedWith, measuredWith};
 use live::types::Liveness;
 use ring::types::*;
+use rowring::store::set_lates;
 use rows::measures::*;
 use rows::probes::*;
 use rtt::types::*;
 use rules::types::*;
-use rowring::store::set_lates;
 use select::types::PATH_MAX_PER_PEER;
 
 // Stores the ring.
