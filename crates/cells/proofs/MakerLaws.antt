@@ -25,7 +25,7 @@ use Rattle.stop.specs.declared.types.Stop.{Stop}
 use Rattle.live.specs.declared.types.Traffic.{Traffic}
 use Rattle.image.specs.Image.{timeTag, timeOrZero, etxBits}
 use Rattle.rules.specs.declared.types.Label.{Label}
-use Rattle.cells.specs.Cells.{idIn, lenIn, sentIn, idsIn, firstTime, sizesIn, ladderIn, trafficIn, missesIn}
+use Rattle.cells.specs.Cells.{idIn, lengthIn, sentIn, idsIn, firstTime, sizesIn, ladderIn, trafficIn, missesIn}
 use Rattle.cells.specs.Cells.{etxIn, sampleIn, spanIn, usedIn, labelIn, stopIn}
 use Rattle.cells.specs.Code.{stopRow, untilRow}
 use Rattle.cells.specs.Code.{idWord, lenWord, sentRow, idsRow, timeRow, seekRow, provenRow, ladderRow}
@@ -49,10 +49,10 @@ id-made {m} {x} {n} e p =
 
 -- the word of a length that is there
 pub len-made : {m : MaybeLen} {x n : ℕ} → m ≡ len.Some n → (x ≡ n) × (x < 65536)
-    → (x + 1 ≡ lenWord m) × (lenIn (x + 1) ≡ m)
+    → (x + 1 ≡ lenWord m) × (lengthIn (x + 1) ≡ m)
 len-made {m} {x} {n} e p =
     let w : x + 1 ≡ lenWord m = ap (λ (y : ℕ). y + 1) (p .0) ∙ ap lenWord (sym e) in
-    (w, ap lenIn (ap (λ (y : ℕ). y + 1) (p .0)) ∙ len-some n (under p) ∙ sym e)
+    (w, ap lengthIn (ap (λ (y : ℕ). y + 1) (p .0)) ∙ len-some n (under p) ∙ sym e)
 
 -- a probe's row
 pub sent-made : (s : Sent) {x n e : ℕ} → (x ≡ s .«probe_id») × (x < 2 ^ 32) → (n ≡ s .len) × (n < 65536)
@@ -87,23 +87,23 @@ time-made {m} {a} {b} e f =
 -- the sizes' rows
 pub sizes-made : (s : Sizes) {w x y z l m : ℕ} → w ≡ timeTag (s .seek .at) → x ≡ timeOrZero (s .seek .at)
     → (y ≡ s .seek .«probe_id») × (y < 2 ^ 32) → (z ≡ s .seek .len) × (z < 65536)
-    → (l ≡ s .seek .lost) × (l < 65536) → (m ≡ lenWord (s .proven)) × (lenIn m ≡ s .proven)
+    → (l ≡ s .seek .lost) × (l < 65536) → (m ≡ lenWord (s .proven)) × (lengthIn m ≡ s .proven)
     → (w ∷ x ∷ y ∷ z ∷ [] ≡ seekRow s) × (l ∷ m ∷ 0 ∷ 0 ∷ [] ≡ provenRow s)
     × (sizesIn (w ∷ x ∷ y ∷ z ∷ []) (l ∷ m ∷ 0 ∷ 0 ∷ []) ≡ s)
 unfolding seekRow provenRow
 sizes-made s {w} {x} {y} {z} {l} {m} a b c d e f =
     let q : w ∷ x ∷ y ∷ z ∷ [] ≡ seekRow s = λ k. a k ∷ b k ∷ c .0 k ∷ d .0 k ∷ [] in
     let r : l ∷ m ∷ 0 ∷ 0 ∷ [] ≡ provenRow s = λ k. e .0 k ∷ f .0 k ∷ 0 ∷ 0 ∷ [] in
-    let same = sizes-same s (under c) (under d) (under e) (ap lenIn (sym (f .0)) ∙ f .1) in
+    let same = sizes-same s (under c) (under d) (under e) (ap lengthIn (sym (f .0)) ∙ f .1) in
     (q, r, (λ k. sizesIn (q k) (r k)) ∙ same)
 
 -- the ladder's row
-pub ladder-made : (l : Ladder) {a f : ℕ} → (a ≡ lenWord (l .last)) × (lenIn a ≡ l .last) → f ≡ flagOf (l .fallen)
+pub ladder-made : (l : Ladder) {a f : ℕ} → (a ≡ lenWord (l .last)) × (lengthIn a ≡ l .last) → f ≡ flagOf (l .fallen)
     → (a ∷ f ∷ 0 ∷ 0 ∷ [] ≡ ladderRow l) × (ladderIn (a ∷ f ∷ 0 ∷ 0 ∷ []) ≡ l)
 unfolding ladderRow
 ladder-made l {a} {f} e g =
     let r : a ∷ f ∷ 0 ∷ 0 ∷ [] ≡ ladderRow l = λ k. e .0 k ∷ g k ∷ 0 ∷ 0 ∷ [] in
-    (r, ap ladderIn r ∙ ladder-same l (ap lenIn (sym (e .0)) ∙ e .1))
+    (r, ap ladderIn r ∙ ladder-same l (ap lengthIn (sym (e .0)) ∙ e .1))
 
 -- the traffic's rows
 pub traffic-made : (s : Traffic) {a b c d f g : ℕ} → a ≡ timeTag (s .«heard_at») → b ≡ timeOrZero (s .«heard_at»)

@@ -32,7 +32,7 @@ use Rattle.select.specs.declared.types.Role.the-variants as role
 use Rattle.select.specs.Media.{mediumOf, roleOf}
 use Rattle.rules.specs.declared.types.Label.{Label}
 use Rattle.rules.specs.declared.types.Settings.{Settings}
-use Rattle.cells.specs.Cells.{flagIn, idIn, lenIn, timeIn, sentIn, idsIn, firstTime, stopIn, sizesIn, ladderIn}
+use Rattle.cells.specs.Cells.{flagIn, idIn, lengthIn, instantIn, sentIn, idsIn, firstTime, stopIn, sizesIn, ladderIn}
 use Rattle.cells.specs.Cells.{trafficIn, missesIn, etxIn, sampleIn, spanIn, usedIn, labelIn, settingsIn}
 use Rattle.cells.specs.Code.{idWord, lenWord, sentRow, idsRow, timeRow, stopRow, untilRow, seekRow, provenRow}
 use Rattle.cells.specs.Code.{ladderRow, arrivalsRow, countersRow, missesRow, etxRow, sampleRow, spanRow}
@@ -68,7 +68,7 @@ id-some x h =
     rw (ne-eqb (x + 1) 0 (λ q. absurd (omega arith)), z)
 
 -- a length's word says it
-pub len-some : (x : ℕ) → x < 65536 → lenIn (x + 1) ≡ len.Some x
+pub len-some : (x : ℕ) → x < 65536 → lengthIn (x + 1) ≡ len.Some x
 len-some x h =
     let z : (x + 1 - 1) % 65536 ≡ x = omega arith in
     rw (ne-eqb (x + 1) 0 (λ q. absurd (omega arith)), z)
@@ -79,12 +79,12 @@ id-says id.None h = refl
 id-says (id.Some x) h = id-some x (omega arith)
 
 -- the same of a length
-pub len-says : (m : MaybeLen) → lenWord m ≤ 65536 → lenIn (lenWord m) ≡ m
+pub len-says : (m : MaybeLen) → lenWord m ≤ 65536 → lengthIn (lenWord m) ≡ m
 len-says len.None h = refl
 len-says (len.Some n) h = len-some n (omega arith)
 
 -- the two words of an instant or a duration say it
-pub instant-says : (m : MaybeTime) → timeIn (timeTag m) (timeOrZero m) ≡ m
+pub instant-says : (m : MaybeTime) → instantIn (timeTag m) (timeOrZero m) ≡ m
 instant-says time.None = refl
 instant-says (time.Some t) = refl
 
@@ -135,7 +135,7 @@ stop-says (stop.Some s) =
 
 -- the sizes, if the proven one's word says it
 pub sizes-same : (s : Sizes) → s .seek .«probe_id» < 2 ^ 32 → s .seek .len < 65536 → s .seek .lost < 65536
-    → lenIn (lenWord (s .proven)) ≡ s .proven → sizesIn (seekRow s) (provenRow s) ≡ s
+    → lengthIn (lenWord (s .proven)) ≡ s .proven → sizesIn (seekRow s) (provenRow s) ≡ s
 unfolding sizesIn seekRow provenRow
 sizes-same s a b c d =
     let t = instant-says (s .seek .at) in
@@ -150,7 +150,7 @@ pub sizes-says : (s : Sizes) → s .seek .«probe_id» < 2 ^ 32 → s .seek .len
 sizes-says s a b c d = sizes-same s a b c (len-says _ d)
 
 -- the ladder, if the last size's word says it
-pub ladder-same : (l : Ladder) → lenIn (lenWord (l .last)) ≡ l .last → ladderIn (ladderRow l) ≡ l
+pub ladder-same : (l : Ladder) → lengthIn (lenWord (l .last)) ≡ l .last → ladderIn (ladderRow l) ≡ l
 unfolding ladderIn ladderRow
 ladder-same l e =
     let f = flag-same (l .fallen) in

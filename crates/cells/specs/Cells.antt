@@ -38,12 +38,12 @@ abbrev pub idIn : ℕ → MaybeId
 idIn x = cond (eqb x 0) id.None (id.Some ((x - 1) % 2 ^ 32))
 
 -- a length with 1 added, or 0 for none
-abbrev pub lenIn : ℕ → MaybeLen
-lenIn x = cond (eqb x 0) len.None (len.Some ((x - 1) % 65536))
+abbrev pub lengthIn : ℕ → MaybeLen
+lengthIn x = cond (eqb x 0) len.None (len.Some ((x - 1) % 65536))
 
 -- a mark, and an instant or a duration
-abbrev pub timeIn : ℕ → ℕ → MaybeTime
-timeIn tag t = cond (eqb tag 0) time.None (time.Some t)
+abbrev pub instantIn : ℕ → ℕ → MaybeTime
+instantIn tag t = cond (eqb tag 0) time.None (time.Some t)
 
 -- a probe: at, due, identifier, and its length with 65,536 added while the place is used
 unfoldable pub sentIn : List ℕ → Sent
@@ -68,7 +68,7 @@ idsIn r =
 
 -- an instant or a duration in the first two words: the silence clock, the latest round trip
 unfoldable pub firstTime : List ℕ → MaybeTime
-firstTime r = timeIn (word r 0) (word r 1)
+firstTime r = instantIn (word r 0) (word r 1)
 
 -- the stop: a mark, above 1 if a slot is owed, then free, gap, used; in a second row until
 unfoldable pub stopIn : List ℕ → List ℕ → MaybeStop
@@ -80,7 +80,7 @@ stopIn r s =
       free = word r 1;
       gap = word r 2;
       used = word r 3;
-      until = timeIn (word s 0) (word s 1);
+      until = instantIn (word s 0) (word s 1);
       owed = ltb 1 (word r 0);
     }))
 
@@ -90,24 +90,24 @@ sizesIn r s =
     record {
       seek =
           record {
-            at = timeIn (word r 0) (word r 1);
+            at = instantIn (word r 0) (word r 1);
             «probe_id» = word r 2 % 2 ^ 32;
             len = word r 3 % 65536;
             lost = word s 0 % 65536;
           };
-      proven = lenIn (word s 1);
+      proven = lengthIn (word s 1);
     }
 
 -- the ladder: the last size, and whether it fell
 unfoldable pub ladderIn : List ℕ → Ladder
-ladderIn r = record { last = lenIn (word r 0); fallen = flagIn (word r 1) }
+ladderIn r = record { last = lengthIn (word r 0); fallen = flagIn (word r 1) }
 
 -- when the last frame and the last session datagram came; in a second row frames and bytes
 unfoldable pub trafficIn : List ℕ → List ℕ → Traffic
 trafficIn r s =
     record {
-      «heard_at» = timeIn (word r 0) (word r 1);
-      «data_at» = timeIn (word r 2) (word r 3);
+      «heard_at» = instantIn (word r 0) (word r 1);
+      «data_at» = instantIn (word r 2) (word r 3);
       frames = word s 0 % 2 ^ 32;
       bytes = word s 1 % 2 ^ 32;
     }

@@ -3,7 +3,8 @@
 ghost use mathlib.Core.Path.{_≡_};
 ghost use Prim.Native.Nat.{_+_};
 ghost use Rattle.base.specs.Seq.{flagOf};
-ghost use Rattle.cells.specs.Cells.{word, timeIn, firstTime, sampleIn, spanIn, etxIn, sizesIn, trafficIn, stopIn};
+ghost use Rattle.cells.specs.Cells.{word, instantIn, firstTime, sampleIn, spanIn, etxIn, sizesIn, trafficIn};
+ghost use Rattle.cells.specs.Cells.{stopIn};
 ghost use Rattle.cells.specs.Code.{stopRow, untilRow};
 ghost use Rattle.cells.specs.Code.{timeRow, sampleRow, spanRow, etxRow, seekRow, provenRow};
 ghost use Rattle.cells.specs.Code.{arrivalsRow, countersRow};
@@ -32,7 +33,7 @@ pub fn first_time(t: [u64; 4]) -> MaybeTime
 
 // The instant or duration that a row's last two words say.
 pub fn second_time(t: [u64; 4]) -> MaybeTime
-    ensures { λ r. ⌜ r ≡ timeIn (word t 2) (word t 3) ⌝ }
+    ensures { λ r. ⌜ r ≡ instantIn (word t 2) (word t 3) ⌝ }
 {
     let tag = t[2];
     let at = t[3];

@@ -1,7 +1,7 @@
 // Single words: numbers by their width, and what may be missing.
 ghost use mathlib.Core.Path.{_≡_};
 ghost use Prim.Native.Nat.{_%_, _^_, _<_};
-ghost use Rattle.cells.specs.Cells.{idIn, lenIn, timeIn};
+ghost use Rattle.cells.specs.Cells.{idIn, lengthIn, instantIn};
 ghost use Rattle.cells.specs.Code.{idWord, lenWord};
 use base::types::*;
 
@@ -56,7 +56,7 @@ pub fn id_word(m: MaybeId) -> u64
 
 // The length that a word says.
 pub fn len_in(x: u64) -> MaybeLen
-    ensures { λ r. ⌜ r ≡ lenIn x ⌝ }
+    ensures { λ r. ⌜ r ≡ lengthIn x ⌝ }
 {
     if x == 0 {
         MaybeLen::None
@@ -67,7 +67,7 @@ pub fn len_in(x: u64) -> MaybeLen
 
 // The word that says a length.
 pub fn len_word(m: MaybeLen) -> u64
-    ensures { λ r. ⌜ (r ≡ lenWord m) × (lenIn r ≡ m) ⌝ }
+    ensures { λ r. ⌜ (r ≡ lenWord m) × (lengthIn r ≡ m) ⌝ }
 {
     match m {
         MaybeLen::None => 0,
@@ -77,7 +77,7 @@ pub fn len_word(m: MaybeLen) -> u64
 
 // The instant or the duration that two words say.
 pub fn time_in(tag: u64, t: u64) -> MaybeTime
-    ensures { λ r. ⌜ r ≡ timeIn tag t ⌝ }
+    ensures { λ r. ⌜ r ≡ instantIn tag t ⌝ }
 {
     if tag == 0 {
         MaybeTime::None

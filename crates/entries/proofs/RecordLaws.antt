@@ -15,7 +15,7 @@ use Rattle.eventfile.specs.declared.types.Parse.{Parse}
 use Rattle.eventfile.specs.declared.types.Parse.the-variants as parse
 use Rattle.rows.specs.Says.{isRefused}
 use Rattle.rowpeer.specs.Record.{recordIn, Steps}
-use Rattle.entries.specs.Record.{replyOf, StepsHere, noneTaken, takenBy, TakenHere}
+use Rattle.entries.specs.Record.{answerReply, StepsHere, noneTaken, takenBy, TakenHere}
 use Rattle.entries.specs.declared.Reply.{Reply}
 use Rattle.entries.specs.declared.record.Taken.{Taken}
 
@@ -32,8 +32,8 @@ told t a b x s p =
 
 -- an event, its answer as C has it
 pub steps-here : (t : List ℕ) (a b : List (List (List ℕ))) (x : rules.Reply) (r : Reply) (e : Event)
-    → Steps t a b x (step (recordIn t a) e) → r ≡ replyOf x → StepsHere t a b r e
-steps-here t a b x r e p h = (h ∙ ap replyOf (p .answer), told t a b x (step (recordIn t a) e) p)
+    → Steps t a b x (step (recordIn t a) e) → r ≡ answerReply x → StepsHere t a b r e
+steps-here t a b x r e p h = (h ∙ ap answerReply (p .answer), told t a b x (step (recordIn t a) e) p)
 
 -- no bytes
 pub taken-none : (t : List ℕ) (a : List (List (List ℕ))) (p : Parse) (r : Taken) → p ≡ parse.End → r ≡ noneTaken Cut

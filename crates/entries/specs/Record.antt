@@ -19,8 +19,8 @@ use Rattle.entries.specs.declared.Reply.{Reply}
 use Rattle.entries.specs.declared.record.Taken.{Taken}
 
 -- words of eight bytes: four of settings, and eight slots of 65 rows of four
-abbrev pub recordSize : ℕ
-recordSize = 8 * (4 + 8 * (65 * 4))
+abbrev pub recordBytes : ℕ
+recordBytes = 8 * (4 + 8 * (65 * 4))
 
 -- arguments, by name
 abbrev pub settingsWith : ℕ → ℕ → ℕ → ℕ → Settings
@@ -40,14 +40,14 @@ eventWith kind slot flags at span id len acked =
     }
 
 -- an answer of the record, over C
-abbrev pub replyOf : rules.Reply → Reply
-replyOf x = record { number = numberOf x; value = valueOf x }
+abbrev pub answerReply : rules.Reply → Reply
+answerReply x = record { number = numberOf x; value = valueOf x }
 
 -- an event: what C gets is the answer of the rules' step, and the words are as rowpeer's contract has them
 abbrev pub StepsHere : List ℕ → List (List (List ℕ)) → List (List (List ℕ)) → Reply → Event → Type 0
 StepsHere t a b r e =
     let s = step (recordIn t a) e in
-    (r ≡ replyOf (s .reply)) × Steps t a b (s .reply) s
+    (r ≡ answerReply (s .reply)) × Steps t a b (s .reply) s
 
 -- no event could be read
 abbrev pub noneTaken : Refusal → Taken

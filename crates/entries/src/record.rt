@@ -10,7 +10,7 @@ ghost use Rattle.standing.specs.Standing.{slotWritten, slotOut};
 ghost use Rattle.cells.specs.Code.{settingsRow};
 ghost use Rattle.rowpeer.specs.Record.{recordIn, recordRows};
 ghost use Rattle.entries.specs.Events.{writtenReply};
-ghost use Rattle.entries.specs.Record.{recordSize, settingsWith, eventWith, replyOf, noneTaken, TakenHere};
+ghost use Rattle.entries.specs.Record.{recordBytes, settingsWith, eventWith, answerReply, noneTaken, TakenHere};
 ghost use Rattle.entries.specs.Record.{StepsHere, takenBy};
 use crate::Reply;
 use base::types::Refusal;
@@ -29,7 +29,7 @@ pub struct Taken {
 
 // An answer of the record, as a number and a value.
 fn reply_of(reply: rules::types::Reply) -> Reply
-    ensures { λ r. ⌜ r ≡ replyOf reply ⌝ }
+    ensures { λ r. ⌜ r ≡ answerReply reply ⌝ }
 {
     Reply {
         number: turns::reply::number_of(reply),
@@ -40,7 +40,7 @@ fn reply_of(reply: rules::types::Reply) -> Reply
 // The bytes of a record.
 #[no_mangle]
 pub extern "C" fn hess_record_size() -> u64
-    ensures { λ r. ⌜ r ≡ recordSize ⌝ }
+    ensures { λ r. ⌜ r ≡ recordBytes ⌝ }
 {
     8 * (4 + 8 * 65 * 4)
 }
@@ -55,7 +55,7 @@ pub extern "C" fn hess_record_new(
     window: u64,
     horizon: u64,
 ) -> Reply
-    ensures { λ r. let s = settingsWith cap gap window horizon in ⌜ (r ≡ replyOf (recordOf s .reply))
+    ensures { λ r. let s = settingsWith cap gap window horizon in ⌜ (r ≡ answerReply (recordOf s .reply))
         × (now (settings .exit) ≡ cond (allowed s) (settingsRow s) (now (settings .entry)))
         × (now (slots .exit) ≡ cond (allowed s) (recordRows (freshRecord s)) (now (slots .entry))) ⌝ }
 {

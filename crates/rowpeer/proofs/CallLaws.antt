@@ -2,23 +2,22 @@
 -- Assumes nothing.
 use Prim.Native.Nat.{ℕ}
 use mathlib.Core.Path.{_≡_, refl, ap, sym, subst, _∙_}
-use mathlib.Core.List.{List, [], _∷_, map}
+use mathlib.Core.List.{List, [], _∷_}
 use Rattle.rules.specs.Event.{numberOf, valueOf}
 use Rattle.rules.specs.Step.{Entry, freshRecord, step, run, trace}
 use Rattle.rules.specs.declared.types.Record.{Record}
-use Rattle.rules.specs.declared.types.Reply.{Reply}
 use Rattle.rules.proofs.Whole.{demand3}
 use Rattle.cells.specs.Cells.{settingsIn}
 use Rattle.rowpeer.specs.Record.{recordIn, recordRows, AreCoded, Steps}
-use Rattle.rowpeer.specs.Calls.{Call, Calls, eventsIn, entriesIn, Kept, CallsHold}
+use Rattle.rowpeer.specs.Calls.{Exchange, Calls, eventsIn, entriesIn, CallsHold}
 use Rattle.rowpeer.proofs.FreshLaws.{fresh-says, fresh-coded}
 
 -- a call with its answer, as the trace has it
-abbrev entry : Call → Entry
+abbrev entry : Exchange → Entry
 entry x = record { event = x .event; number = numberOf (x .reply); value = valueOf (x .reply) }
 
 -- the answers of calls are those of the trace
-answers : (t : List ℕ) (c : List Call) (a d : List (List (List ℕ))) → Calls t a c d
+answers : (t : List ℕ) (c : List Exchange) (a d : List (List (List ℕ))) → Calls t a c d
     → entriesIn c ≡ trace (recordIn t a) (eventsIn c)
 answers t [] a d h = refl
 answers t (x ∷ c) a d h =
@@ -32,7 +31,7 @@ answers t (x ∷ c) a d h =
     (answers t c (h .0) d (h .2) ∙ ap (λ (r : Record). trace r (eventsIn c)) (s .next))
 
 -- the record that the words say after them is that of `run`
-says : (t : List ℕ) (c : List Call) (a d : List (List (List ℕ))) → Calls t a c d
+says : (t : List ℕ) (c : List Exchange) (a d : List (List (List ℕ))) → Calls t a c d
     → recordIn t d ≡ run (recordIn t a) (eventsIn c)
 says t [] a d h = ap (recordIn t) (sym h)
 says t (x ∷ c) a d h =
@@ -40,7 +39,7 @@ says t (x ∷ c) a d h =
     says t c (h .0) d (h .2) ∙ ap (λ (r : Record). run r (eventsIn c)) (s .next)
 
 -- and the words are the encoder's if the first were
-coded : (t : List ℕ) (c : List Call) (a d : List (List (List ℕ))) → Calls t a c d → AreCoded a → AreCoded d
+coded : (t : List ℕ) (c : List Exchange) (a d : List (List (List ℕ))) → Calls t a c d → AreCoded a → AreCoded d
 coded t [] a d h e = subst AreCoded h e
 coded t (x ∷ c) a d h e =
     let s : Steps t a (h .0) (x .reply) (step (recordIn t a) (x .event)) = h .1 in

@@ -1,14 +1,11 @@
 -- The encoder's words of a new record say it.
 -- Assumes nothing.
 use Prim.Native.Nat.{ℕ}
-use mathlib.Core.Path.{_≡_, refl, ap}
+use mathlib.Core.Path.{_≡_}
 use mathlib.Core.List.{List}
 use lib.ListN.{replicate}
-use Rattle.rules.specs.Rules.{emptySlot}
 use Rattle.rules.specs.Step.{freshRecord}
-use Rattle.rules.specs.declared.types.Slot.{Slot}
 use Rattle.cells.specs.Cells.{settingsIn}
-use Rattle.rows.specs.View.{slotIn}
 use Rattle.rows.specs.Encode.{slotRows}
 use Rattle.rows.proofs.NewLaws.{empty-says}
 use Rattle.rowpeer.specs.Record.{recordIn, recordRows, AreCoded}

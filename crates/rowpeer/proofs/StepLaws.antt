@@ -2,7 +2,7 @@
 -- Assumes nothing.
 use Prim.Native.Nat.{ℕ, _<_, _≤_}
 use mathlib.Core.Path.{_≡_, refl, ap, sym, _∙_}
-use mathlib.Core.Bool.{Bool, true, false, _||_}
+use mathlib.Core.Bool.{true, false, _||_}
 use mathlib.Core.List.{List, [], map}
 use native.Mathlib.Omega.{arith}
 use borrow.Author.Tests.{lt-ltb}
@@ -15,7 +15,6 @@ use Rattle.rules.specs.Step.{put, step}
 use Rattle.rules.specs.declared.types.Event.{Event}
 use Rattle.rules.specs.declared.types.Reply.{Reply}
 use Rattle.rules.specs.declared.types.Settings.{Settings}
-use Rattle.rules.specs.declared.types.Slot.{Slot}
 use Rattle.rules.specs.declared.types.Stepped.{Stepped}
 use Rattle.rules.specs.declared.types.Turn.{Turn}
 use Rattle.choosing.specs.Choosing.{chosenOf}
@@ -24,9 +23,9 @@ use Rattle.peer.proofs.EventLaws.{getD-any, step-choose, step-in, step-out}
 use Rattle.cells.specs.Cells.{settingsIn}
 use Rattle.rows.specs.View.{slotIn}
 use Rattle.rows.specs.Encode.{slotRows}
-use Rattle.rows.specs.Says.{Turns, isRefused}
+use Rattle.rows.specs.Says.{Turns}
 use Rattle.rows.proofs.BlockLaws.{map-set}
-use Rattle.rowpeer.specs.Record.{recordIn, AreCoded, beyondOf, Steps}
+use Rattle.rowpeer.specs.Record.{recordIn, beyondOf, Steps}
 
 -- nothing stored
 still : (t : List ℕ) (a : List (List (List ℕ))) {x : Reply} {s : Stepped} (y : Reply) → x ≡ y

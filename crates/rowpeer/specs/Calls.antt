@@ -12,27 +12,27 @@ use Rattle.cells.specs.Cells.{settingsIn}
 use Rattle.rowpeer.specs.Record.{recordIn, recordRows, Steps}
 
 -- a call, as its caller sees it: the event and the answer
-pub record Call : Type 0 where
+pub record Exchange : Type 0 where
   pub event : Event
   pub reply : Reply
 
 -- the calls c on one record, each on the words that the one before it left, lead from the words a to the words d: of
 -- each only its contract is known
-abbrev pub Calls : List ℕ → List (List (List ℕ)) → List Call → List (List (List ℕ)) → Type 0
+abbrev pub Calls : List ℕ → List (List (List ℕ)) → List Exchange → List (List (List ℕ)) → Type 0
 Calls t a [] d = a ≡ d
 Calls t a (x ∷ c) d =
     (b : List (List (List ℕ))) × Steps t a b (x .reply) (step (recordIn t a) (x .event)) × Calls t b c d
 
 -- the events of the calls, and what was answered, as the rules' trace has it
-abbrev pub eventsIn : List Call → List Event
+abbrev pub eventsIn : List Exchange → List Event
 eventsIn c = map (λ x. x .event) c
 
-abbrev pub entriesIn : List Call → List Entry
+abbrev pub entriesIn : List Exchange → List Entry
 entriesIn c = map (λ x. record { event = x .event; number = numberOf (x .reply); value = valueOf (x .reply) }) c
 
 -- what is claimed of calls from the words of a new record on: the answers are those of `trace`, the words are the
 -- encoder's for the record that `run` gives, and demand 3 holds of the events
-pub record Kept (t : List ℕ) (c : List Call) (d : List (List (List ℕ))) : Type 0 where
+pub record Lasting (t : List ℕ) (c : List Exchange) (d : List (List (List ℕ))) : Type 0 where
   pub answers : entriesIn c ≡ trace (freshRecord (settingsIn t)) (eventsIn c)
   pub says : recordIn t d ≡ run (freshRecord (settingsIn t)) (eventsIn c)
   pub words : d ≡ recordRows (run (freshRecord (settingsIn t)) (eventsIn c))
@@ -41,5 +41,5 @@ pub record Kept (t : List ℕ) (c : List Call) (d : List (List (List ℕ))) : Ty
 -- the claim, for every list of calls
 abbrev pub CallsHold : Type 0
 CallsHold =
-    (t : List ℕ) (c : List Call) (d : List (List (List ℕ))) → allowed (settingsIn t) ≡ true
-    → Calls t (recordRows (freshRecord (settingsIn t))) c d → Kept t c d
+    (t : List ℕ) (c : List Exchange) (d : List (List (List ℕ))) → allowed (settingsIn t) ≡ true
+    → Calls t (recordRows (freshRecord (settingsIn t))) c d → Lasting t c d

@@ -2,13 +2,13 @@
 -- Assumes nothing.
 use Prim.Native.Nat.{ℕ, _+_, _<_, _≤_}
 use mathlib.Core.Path.{_≡_, refl, ap, sym, _∙_}
-use mathlib.Core.Bool.{Bool, true, false}
+use mathlib.Core.Bool.{false}
 use mathlib.Core.List.{List}
 use native.Mathlib.Omega.{arith}
 use borrow.Author.Tests.{ne-eqb}
 use lib.Dec.{eqb}
 use lib.Ieee.{Float}
-use lib.ListN.{length, set, getD}
+use lib.ListN.{length, set}
 use lib.Seq.{set-out}
 use Rattle.base.proofs.Cases.{never}
 use Rattle.base.specs.declared.types.MaybeTime.{MaybeTime}
@@ -31,7 +31,7 @@ use Rattle.cells.specs.Code.{sentRow, idsRow, timeRow, seekRow, provenRow, ladd
 use Rattle.cells.specs.Code.{stopRow, untilRow, missesRow, etxRow, sampleRow, spanRow}
 use Rattle.rows.specs.Parts.{withQuiet, withStop, withSamples, withSpans, withTrip}
 use Rattle.rows.specs.View.{row, pathIn, slotIn}
-use Rattle.rows.specs.Encode.{slotRows, IsCoded}
+use Rattle.rows.specs.Encode.{slotRows}
 use Rattle.rows.specs.Says.{Says, Turns, isRefused}
 use Rattle.rows.proofs.BlockLaws.{row-other}
 use Rattle.rows.proofs.CodeLaws as code

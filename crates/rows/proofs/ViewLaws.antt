@@ -1,9 +1,9 @@
 -- What the path becomes where one row is stored: one law for each part.
 -- Assumes nothing.
 use Prim.Native.Nat.{ℕ, _+_, _<_, _≤_}
-use mathlib.Core.Path.{_≡_, refl, ap, sym, _∙_}
+use mathlib.Core.Path.{_≡_, sym, _∙_}
 use mathlib.Core.List.{List, []}
-use mathlib.Core.Bool.{Bool, true, false}
+use mathlib.Core.Bool.{true, false}
 use native.Mathlib.Omega.{arith}
 use native.Mathlib.Nat.{zero-add}
 use borrow.Author.Tests.{ne-eqb, leb-true, ltb-true, lt-ltb, le-leb}
@@ -26,7 +26,7 @@ use Rattle.live.specs.declared.types.Traffic.{Traffic}
 use Rattle.live.specs.Path.{withRing, withLate, withIds, withSizes, withTraffic, withLadder, withMisses, withEtx}
 use Rattle.cells.specs.Cells.{sentIn, idsIn, firstTime, ladderIn, missesIn, sampleIn, spanIn, sizesIn, trafficIn, etxIn, stopIn}
 use Rattle.rows.specs.Parts.{withQuiet, withStop, withSamples, withSpans, withTrip}
-use Rattle.rows.specs.View.{row, block, ringIn, lateIn, samplesIn, spansIn, pathIn}
+use Rattle.rows.specs.View.{row, ringIn, lateIn, samplesIn, spansIn, pathIn}
 use Rattle.rows.proofs.BlockLaws.{block-at, block-before, block-after, block-in, row-other, row-same}
 
 module _ (p : List (List ℕ)) where

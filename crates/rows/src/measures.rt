@@ -126,7 +126,8 @@ pub fn sample(p: &[[u64; 4]; ROWS], i: usize) -> Sample
 
 // Stores a sample at a place of the window.
 pub fn set_sample(p: &mut [[u64; 4]; ROWS], i: usize, s: Sample)
-    ensures { λ r. ⌜ Says (now (p .entry)) (now (p .exit)) (withSamples (pathIn (now (p .entry))) (set (pathIn (now (p .entry)) .rtts .samples) i s)) ⌝ }
+    ensures { λ r. ⌜ Says (now (p .entry)) (now (p .exit))
+        (withSamples (pathIn (now (p .entry))) (set (pathIn (now (p .entry)) .rtts .samples) i s)) ⌝ }
 {
     rows(p);
     if SAMPLES <= i {
@@ -150,7 +151,8 @@ pub fn span(p: &[[u64; 4]; ROWS], i: usize) -> Span
 
 // Stores a span at a place of the horizon.
 pub fn set_span(p: &mut [[u64; 4]; ROWS], i: usize, s: Span)
-    ensures { λ r. ⌜ Says (now (p .entry)) (now (p .exit)) (withSpans (pathIn (now (p .entry))) (set (pathIn (now (p .entry)) .rtts .spans) i s)) ⌝ }
+    ensures { λ r. ⌜ Says (now (p .entry)) (now (p .exit))
+        (withSpans (pathIn (now (p .entry))) (set (pathIn (now (p .entry)) .rtts .spans) i s)) ⌝ }
 {
     rows(p);
     if SPANS <= i {

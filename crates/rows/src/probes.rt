@@ -44,7 +44,8 @@ pub fn sent(p: &[[u64; 4]; ROWS], i: usize) -> Sent
 
 // Stores a probe at a place of the ring.
 pub fn set_sent(p: &mut [[u64; 4]; ROWS], i: usize, s: Sent)
-    ensures { λ r. ⌜ Says (now (p .entry)) (now (p .exit)) (withRing (pathIn (now (p .entry))) (set (pathIn (now (p .entry)) .ring) i s)) ⌝ }
+    ensures { λ r. ⌜ Says (now (p .entry)) (now (p .exit))
+        (withRing (pathIn (now (p .entry))) (set (pathIn (now (p .entry)) .ring) i s)) ⌝ }
 {
     rows(p);
     if RING <= i {
@@ -68,7 +69,8 @@ pub fn late(p: &[[u64; 4]; ROWS], i: usize) -> Sent
 
 // Stores a probe at a place of the late list.
 pub fn set_late(p: &mut [[u64; 4]; ROWS], i: usize, s: Sent)
-    ensures { λ r. ⌜ Says (now (p .entry)) (now (p .exit)) (withLate (pathIn (now (p .entry))) (set (pathIn (now (p .entry)) .late) i s)) ⌝ }
+    ensures { λ r. ⌜ Says (now (p .entry)) (now (p .exit))
+        (withLate (pathIn (now (p .entry))) (set (pathIn (now (p .entry)) .late) i s)) ⌝ }
 {
     rows(p);
     if LATE <= i {

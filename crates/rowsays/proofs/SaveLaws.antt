@@ -17,7 +17,7 @@ use Rattle.cells.specs.Cells.{labelIn, usedIn}
 use Rattle.cells.specs.Code.{settingsRow}
 use Rattle.cells.proofs.RowLaws.{settings-says}
 use Rattle.rows.specs.Parts.{withQuiet, withStop, withSamples, withSpans, withTrip}
-use Rattle.rows.specs.View.{row, pathIn, slotIn}
+use Rattle.rows.specs.View.{pathIn, slotIn}
 use Rattle.rows.specs.Encode.{slotRows}
 use Rattle.rows.specs.Says.{Says}
 use Rattle.rows.proofs.NewLaws.{newSlot}

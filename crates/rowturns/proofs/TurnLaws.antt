@@ -9,7 +9,7 @@ use Rattle.base.specs.declared.types.Refusal.{Refusal}
 use Rattle.base.proofs.Cases.{never}
 use Rattle.live.specs.Probe.{answerOf}
 use Rattle.live.specs.declared.types.Outcome.{Outcome}
-use Rattle.rules.specs.Rules.{turn, turnBy, answered, refusals, onSlot}
+use Rattle.rules.specs.Rules.{turnBy, answered, refusals, onSlot}
 use Rattle.rules.specs.declared.types.Event.{Event}
 use Rattle.rules.specs.declared.types.Label.{Label}
 use Rattle.rules.specs.declared.types.Reply.{Reply}
@@ -23,7 +23,7 @@ use Rattle.turns.specs.declared.refuse.Verdict.the-variants.{Pass, Refused}
 use Rattle.cells.specs.Cells.{labelIn}
 use Rattle.rows.specs.View.{pathIn, slotIn}
 use Rattle.rows.specs.Encode.{slotRows}
-use Rattle.rows.specs.Says.{Says, Turns, isRefused}
+use Rattle.rows.specs.Says.{Turns, isRefused}
 use Rattle.rows.proofs.NewLaws.{newSlot}
 use Rattle.rows.proofs.SaysLaws.{turns-by, turns-none, turns-as}
 use Rattle.rowsizes.specs.Settles.{Settles}

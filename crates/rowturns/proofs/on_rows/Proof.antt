@@ -1,6 +1,6 @@
 -- `rowturns::on_rows` meets its contract.
 -- Assumes nothing.
-use mathlib.Core.Path.{refl, ap, _∙_}
+use mathlib.Core.Path.{ap, _∙_}
 use mathlib.Core.Bool.{Bool}
 use borrow.Author.Tests.{ne-eqb}
 use Rattle.rules.specs.Rules.{refusals}

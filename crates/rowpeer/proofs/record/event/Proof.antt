@@ -1,6 +1,5 @@
 -- `rowpeer::record::event` meets its contract.
 -- Assumes nothing.
-use mathlib.Core.Path.{refl}
 use borrow.Author.Tests.{ne-eqb}
 use Rattle.rowpeer.proofs.StepLaws.{steps-choose, steps-in, steps-out}
 use borrow.Author.Needs.{needs}

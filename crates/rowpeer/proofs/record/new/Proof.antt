@@ -1,6 +1,6 @@
 -- `rowpeer::record::new` meets its contract.
 -- Assumes nothing.
-use mathlib.Core.Path.{refl, sym, _∙_}
+use mathlib.Core.Path.{sym, _∙_}
 use Rattle.rules.specs.Step.{recordOf}
 use borrow.Author.Needs.{needs}
 use Rattle.rowpeer.proofs.record.new.Statement.{statement}
