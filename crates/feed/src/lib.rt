@@ -41,7 +41,8 @@ pub fn call(
 
 // The end of the input, with these bytes held; gives the bytes of the last line, which stand in `out`.
 pub fn finish(mark: Mark, buf: &[u8], p: usize, n: usize, out: &mut [u8]) -> usize
-    ensures { λ r. ⌜ (r ≡ written (lastIn (mark .phase) (mark .number) (partOf p n (now (buf .entry)))) (now (out .entry)))
+    ensures { λ r. ⌜ (r ≡ written
+        (lastIn (mark .phase) (mark .number) (partOf p n (now (buf .entry)))) (now (out .entry)))
         × (now (out .exit) ≡ over
         (lastIn (mark .phase) (mark .number) (partOf p n (now (buf .entry)))) (now (out .entry))) ⌝ }
     ensures { λ r. ⌜ r ≤ length (now (out .exit)) ⌝ }
