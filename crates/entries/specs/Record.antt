@@ -19,8 +19,8 @@ use Rattle.entries.specs.declared.Reply.{Reply}
 use Rattle.entries.specs.declared.record.Taken.{Taken}
 
 -- words of eight bytes: four of settings, and eight slots of 65 rows of four
-abbrev pub recordBytes : ℕ
-recordBytes = 8 * (4 + 8 * (65 * 4))
+abbrev pub keptBytes : ℕ
+keptBytes = 8 * (4 + 8 * (65 * 4))
 
 -- arguments, by name
 abbrev pub settingsWith : ℕ → ℕ → ℕ → ℕ → Settings

@@ -10,7 +10,7 @@ ghost use Rattle.standing.specs.Standing.{slotWritten, slotOut};
 ghost use Rattle.cells.specs.Code.{settingsRow};
 ghost use Rattle.rowpeer.specs.Record.{recordIn, recordRows};
 ghost use Rattle.entries.specs.Events.{writtenReply};
-ghost use Rattle.entries.specs.Record.{recordBytes, settingsWith, eventWith, answerReply, noneTaken, TakenHere};
+ghost use Rattle.entries.specs.Record.{keptBytes, settingsWith, eventWith, answerReply, noneTaken, TakenHere};
 ghost use Rattle.entries.specs.Record.{StepsHere, takenBy};
 use crate::Reply;
 use base::types::Refusal;
@@ -40,7 +40,7 @@ fn reply_of(reply: rules::types::Reply) -> Reply
 // The bytes of a record.
 #[no_mangle]
 pub extern "C" fn hess_record_size() -> u64
-    ensures { λ r. ⌜ r ≡ recordBytes ⌝ }
+    ensures { λ r. ⌜ r ≡ keptBytes ⌝ }
 {
     8 * (4 + 8 * 65 * 4)
 }
