@@ -79,7 +79,7 @@ fn main() {
     let (record, slot) = copies.expect("a first file");
     println!(
         "On the first file `hess_events`, with the whole record by value in and out of each event: {record:.0} ns \
-         an event, in each of its two passes; `pathlog`, with one slot: {slot:.0}."
+         an event, in each of its two passes; `pathlog`, on words in place: {slot:.0}."
     );
 }
 
