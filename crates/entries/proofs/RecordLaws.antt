@@ -2,38 +2,23 @@
 -- Assumes nothing.
 use Prim.Native.Nat.{ℕ}
 use mathlib.Core.Path.{_≡_, refl, sym, ap, subst, _∙_}
-use mathlib.Core.Bool.{true}
 use mathlib.Core.List.{List}
 use Rattle.base.specs.declared.types.Refusal.{Refusal}
 use Rattle.base.specs.declared.types.Refusal.the-variants.{Cut}
-use Rattle.rules.specs.Event.{numberOf, valueOf}
 use Rattle.rules.specs.Step.{step}
 use Rattle.rules.specs.declared.types.Event.{Event}
-use Rattle.rules.specs.declared.types.Reply as rules
-use Rattle.rules.specs.declared.types.Stepped.{Stepped}
 use Rattle.eventfile.specs.declared.types.Parse.{Parse}
 use Rattle.eventfile.specs.declared.types.Parse.the-variants as parse
-use Rattle.rows.specs.Says.{isRefused}
-use Rattle.rowpeer.specs.Record.{recordIn, Steps}
-use Rattle.entries.specs.Record.{answerReply, StepsHere, noneTaken, takenBy, TakenHere}
-use Rattle.entries.specs.declared.Reply.{Reply}
+use Rattle.rowpeer.specs.Record.{recordIn, Tells}
+use Rattle.rowpeer.specs.declared.record.Told.{Told}
+use Rattle.entries.specs.Record.{StepsHere, noneTaken, takenBy, TakenHere}
 use Rattle.entries.specs.declared.record.Taken.{Taken}
 
--- an answer is the step's
-told : (t : List ℕ) (a b : List (List (List ℕ))) (x : rules.Reply) (s : Stepped) → Steps t a b x s
-    → Steps t a b (s .reply) s
-told t a b x s p =
-    record {
-      answer = refl;
-      next = p .next;
-      coded = p .coded;
-      left = subst (λ (y : rules.Reply). isRefused y ≡ true → b ≡ a) (p .answer) (p .left);
-    }
-
 -- an event, its answer as C has it
-pub steps-here : (t : List ℕ) (a b : List (List (List ℕ))) (x : rules.Reply) (r : Reply) (e : Event)
-    → Steps t a b x (step (recordIn t a) e) → r ≡ answerReply x → StepsHere t a b r e
-steps-here t a b x r e p h = (h ∙ ap answerReply (p .answer), told t a b x (step (recordIn t a) e) p)
+pub steps-here : (t : List ℕ) (a b : List (List (List ℕ))) (r : Told) (e : Event) → Tells t a b r (step (recordIn t a) e)
+    → StepsHere t a b (record { number = r .number; value = r .value }) e
+steps-here t a b r e p =
+    ((λ j. record { number = p .0 j .number; value = p .0 j .value }), p .1)
 
 -- no bytes
 pub taken-none : (t : List ℕ) (a : List (List (List ℕ))) (p : Parse) (r : Taken) → p ≡ parse.End → r ≡ noneTaken Cut
@@ -50,13 +35,12 @@ abbrev takenWith : ℕ → ℕ → ℕ → Taken
 takenWith n v size = record { number = n; value = v; read = size }
 
 -- an event that was read
-pub taken-event : (t : List ℕ) (a b : List (List (List ℕ))) (p : Parse) (e : Event) (size : ℕ) (x : rules.Reply)
-    (n v : ℕ) → p ≡ parse.Event e size → Steps t a b x (step (recordIn t a) e) → n ≡ numberOf x → v ≡ valueOf x
-    → (takenWith n v size ≡ takenBy (recordIn t a) p) × TakenHere t a b p
-taken-event t a b p e size x n v h q i j =
-    let m : n ≡ numberOf (step (recordIn t a) e .reply) = i ∙ ap numberOf (q .answer) in
-    let w : v ≡ valueOf (step (recordIn t a) e .reply) = j ∙ ap valueOf (q .answer) in
-    let same : takenWith n v size ≡ takenBy (recordIn t a) (parse.Event e size) = λ k. takenWith (m k) (w k) size in (
+pub taken-event : (t : List ℕ) (a b : List (List (List ℕ))) (p : Parse) (e : Event) (size : ℕ) (r : Told)
+    → p ≡ parse.Event e size → Tells t a b r (step (recordIn t a) e)
+    → (takenWith (r .number) (r .value) size ≡ takenBy (recordIn t a) p) × TakenHere t a b p
+taken-event t a b p e size r h q =
+    let same : takenWith (r .number) (r .value) size ≡ takenBy (recordIn t a) (parse.Event e size) =
+    λ k. takenWith (q .0 k .number) (q .0 k .value) size in (
       same ∙ sym (ap (takenBy (recordIn t a)) h),
-      subst (TakenHere t a b) (sym h) (told t a b x (step (recordIn t a) e) q),
+      subst (TakenHere t a b) (sym h) (q .1),
     )

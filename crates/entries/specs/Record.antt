@@ -26,19 +26,6 @@ keptBytes = 8 * (4 + 8 * (65 * 4))
 abbrev pub settingsWith : ℕ → ℕ → ℕ → ℕ → Settings
 settingsWith cap gap window horizon = record { cap = cap; gap = gap; window = window; horizon = horizon }
 
-abbrev pub eventWith : ℕ → ℕ → ℕ → ℕ → ℕ → ℕ → ℕ → ℕ → Event
-eventWith kind slot flags at span id len acked =
-    record {
-      now = at;
-      span = span;
-      id = id;
-      len = len;
-      acked = acked;
-      kind = kind;
-      slot = slot;
-      flags = flags;
-    }
-
 -- an answer of the record, over C
 abbrev pub answerReply : rules.Reply → Reply
 answerReply x = record { number = numberOf x; value = valueOf x }

@@ -8,14 +8,13 @@ ghost use Rattle.rules.specs.Step.{allowed, freshRecord, recordOf};
 ghost use Rattle.eventfile.specs.File.{parseOf};
 ghost use Rattle.standing.specs.Standing.{slotWritten, slotOut};
 ghost use Rattle.cells.specs.Code.{settingsRow};
-ghost use Rattle.rowpeer.specs.Record.{recordIn, recordRows};
+ghost use Rattle.rowpeer.specs.Record.{recordIn, recordRows, eventWith};
 ghost use Rattle.entries.specs.Events.{writtenReply};
-ghost use Rattle.entries.specs.Record.{keptBytes, settingsWith, eventWith, answerReply, noneTaken, TakenHere};
+ghost use Rattle.entries.specs.Record.{keptBytes, settingsWith, answerReply, noneTaken, TakenHere};
 ghost use Rattle.entries.specs.Record.{StepsHere, takenBy};
 use crate::Reply;
 use base::types::Refusal;
 use eventfile::types::Parse;
-use rules::types::Event;
 use rules::types::Settings;
 
 // A refusal number, 0 if accepted, the value, 0 if refused, and how many bytes the event's record has, 0 where none
@@ -85,17 +84,11 @@ pub extern "C" fn hess_record_event(
     ensures { λ r. ⌜ StepsHere (now (settings .entry)) (now (slots .entry)) (now (slots .exit)) r
         (eventWith kind slot flags at span id len acked) ⌝ }
 {
-    let e = Event {
-        now: at,
-        span: span,
-        id: id,
-        len: len,
-        acked: acked,
-        kind: kind,
-        slot: slot,
-        flags: flags,
-    };
-    reply_of(rowpeer::record::event(settings, slots, e))
+    let told = rowpeer::record::tell(settings, slots, kind, slot, flags, at, span, id, len, acked);
+    Reply {
+        number: told.number,
+        value: told.value,
+    }
 }
 
 // No event could be read.
@@ -126,10 +119,21 @@ pub extern "C" fn hess_record_bytes(
         Parse::End => none_taken(Refusal::Cut),
         Parse::Refused(why, kind) => none_taken(why),
         Parse::Event(e, next) => {
-            let reply = rowpeer::record::event(settings, slots, e);
+            let told = rowpeer::record::tell(
+                settings,
+                slots,
+                e.kind,
+                e.slot,
+                e.flags,
+                e.now,
+                e.span,
+                e.id,
+                e.len,
+                e.acked,
+            );
             Taken {
-                number: turns::reply::number_of(reply),
-                value: turns::reply::value_of(reply),
+                number: told.number,
+                value: told.value,
                 read: next as u64,
             }
         }

@@ -1,7 +1,7 @@
 -- One event on a record in words, by choose, a slot of the record, or one that is none.
 -- Assumes nothing.
 use Prim.Native.Nat.{ℕ, _<_, _≤_}
-use mathlib.Core.Path.{_≡_, refl, ap, sym, _∙_}
+use mathlib.Core.Path.{_≡_, refl, ap, sym, subst, _∙_}
 use mathlib.Core.Bool.{true, false, _||_}
 use mathlib.Core.List.{List, [], map}
 use native.Mathlib.Omega.{arith}
@@ -10,6 +10,7 @@ use lib.Dec.{eqb, ltb}
 use lib.ListN.{length, set, getD, length-map, List·getD-map}
 use lib.Seq.{set-getD}
 use Rattle.base.proofs.Cases.{on-flag}
+use Rattle.rules.specs.Event.{numberOf, valueOf}
 use Rattle.rules.specs.Rules.{emptySlot, refusals, onSlot}
 use Rattle.rules.specs.Step.{put, step}
 use Rattle.rules.specs.declared.types.Event.{Event}
@@ -25,7 +26,7 @@ use Rattle.rows.specs.View.{slotIn}
 use Rattle.rows.specs.Encode.{slotRows}
 use Rattle.rows.specs.Says.{Turns}
 use Rattle.rows.proofs.BlockLaws.{map-set}
-use Rattle.rowpeer.specs.Record.{recordIn, beyondOf, Steps}
+use Rattle.rowpeer.specs.Record.{recordIn, beyondOf, Steps, Tells}
 
 -- nothing stored
 still : (t : List ℕ) (a : List (List (List ℕ))) {x : Reply} {s : Stepped} (y : Reply) → x ≡ y
@@ -57,18 +58,17 @@ module _ (t : List ℕ) (a : List (List (List ℕ))) (e : Event) where
       let o : length (map slotIn a) ≤ e .slot = omega (arith, length-map a slotIn) in
       still t a (onSlot (settingsIn t) emptySlot e .reply) (q ∙ beyond (settingsIn t) e h) (step-out (recordIn t a) e k o)
 
-  pub steps-in : {s : Settings} {q : List (List ℕ)} {x : Reply} → length a ≡ 8 → eqb (e .kind) 15 ≡ false → e .slot ≤ 7
-      → s ≡ settingsIn t
-      → Turns (getD a (e .slot) []) q x (onSlot s (slotIn (getD a (e .slot) [])) e)
+  pub steps-in : {q : List (List ℕ)} {x : Reply} → length a ≡ 8 → eqb (e .kind) 15 ≡ false → e .slot ≤ 7
+      → Turns (getD a (e .slot) []) q x (onSlot (settingsIn t) (slotIn (getD a (e .slot) [])) e)
       → Steps t a (set a (e .slot) q) x (step (recordIn t a) e)
-  steps-in {s} {q} {x} n k h g u =
+  steps-in {q} {x} n k h u =
       let i : ℕ = e .slot in
       let o : i < length a = omega (arith, n) in
       let p : i < length (map slotIn a) = omega (arith, n, length-map a slotIn) in
-      let v : Turn = onSlot s (slotIn (getD a i [])) e in
+      let v : Turn = onSlot (settingsIn t) (slotIn (getD a i [])) e in
       let f : step (recordIn t a) e ≡ put (recordIn t a) i v =
       step-in (recordIn t a) e (slotIn []) k p
-      ∙ (λ j. put (recordIn t a) i (onSlot (sym g j) (List·getD-map slotIn a i [] j) e)) in
+      ∙ (λ j. put (recordIn t a) i (onSlot (settingsIn t) (List·getD-map slotIn a i [] j) e)) in
       record {
         answer = u .answer ∙ sym (ap (λ (z : Stepped). z .reply) f);
         next =
@@ -86,3 +86,11 @@ module _ (t : List ℕ) (a : List (List (List ℕ))) (e : Event) where
             ∙ (λ j. set (c j) i (u .coded w j));
         left = λ r. ap (λ (z : List (List ℕ)). set a i z) (u .left r) ∙ set-getD a i [];
       }
+
+-- an answer told by its number and its value
+pub tells : {t : List ℕ} {a b : List (List (List ℕ))} {x : Reply} {s : Stepped} {n v : ℕ} → Steps t a b x s
+    → n ≡ numberOf x → v ≡ valueOf x → Tells t a b (record { number = n; value = v }) s
+tells {t} {a} {b} {x} {s} h e f = (
+  (λ j. record { number = (e ∙ ap numberOf (h .answer)) j; value = (f ∙ ap valueOf (h .answer)) j }),
+  subst (λ (y : Reply). Steps t a b y s) (h .answer) h,
+)

@@ -5,6 +5,8 @@ use mathlib.Core.Path.{_≡_}
 use mathlib.Core.Bool.{true}
 use mathlib.Core.List.{List, map}
 use Rattle.base.specs.declared.types.Refusal.the-variants as refusal
+use Rattle.rules.specs.Event.{numberOf, valueOf}
+use Rattle.rules.specs.declared.types.Event.{Event}
 use Rattle.rules.specs.declared.types.Record.{Record}
 use Rattle.rules.specs.declared.types.Reply.{Reply}
 use Rattle.rules.specs.declared.types.Reply.the-variants as reply
@@ -15,6 +17,7 @@ use Rattle.cells.specs.Cells.{settingsIn}
 use Rattle.rows.specs.View.{slotIn}
 use Rattle.rows.specs.Encode.{slotRows}
 use Rattle.rows.specs.Says.{isRefused}
+use Rattle.rowpeer.specs.declared.record.Told.{Told}
 
 -- what any words say
 abbrev pub recordIn : List ℕ → List (List (List ℕ)) → Record
@@ -35,6 +38,28 @@ pub record Steps (t : List ℕ) (a b : List (List (List ℕ))) (x : Reply) (s : 
   pub next : recordIn t b ≡ s .next
   pub coded : AreCoded a → AreCoded b
   pub left : isRefused x ≡ true → b ≡ a
+
+-- an event by its numbers, in C's order
+abbrev pub eventWith : ℕ → ℕ → ℕ → ℕ → ℕ → ℕ → ℕ → ℕ → Event
+eventWith kind slot flags at span id len acked =
+    record {
+      now = at;
+      span = span;
+      id = id;
+      len = len;
+      acked = acked;
+      kind = kind;
+      slot = slot;
+      flags = flags;
+    }
+
+-- an answer by its number and its value
+abbrev pub toldOf : Reply → Told
+toldOf x = record { number = numberOf x; value = valueOf x }
+
+-- an event whose answer is told by number and value: they are those of s, and the words are as `Steps` has them
+abbrev pub Tells : List ℕ → List (List (List ℕ)) → List (List (List ℕ)) → Told → Stepped → Type 0
+Tells t a b r s = (r ≡ toldOf (s .reply)) × Steps t a b (s .reply) s
 
 -- the answer to an event whose slot is none, by the first refusal: 15, else 1
 abbrev pub beyondOf : Verdict → Reply

@@ -5,10 +5,9 @@ ghost use lib.ListN.{replicate};
 ghost use Rattle.rules.specs.Rules.{emptySlot, refusals};
 ghost use Rattle.rules.specs.Step.{allowed, freshRecord, recordOf, step};
 ghost use Rattle.turns.specs.Turns.{verdictOf};
-ghost use Rattle.cells.specs.Cells.{settingsIn};
 ghost use Rattle.cells.specs.Code.{settingsRow};
 ghost use Rattle.rows.specs.Encode.{slotRows};
-ghost use Rattle.rowpeer.specs.Record.{recordIn, recordRows, beyondOf, Steps};
+ghost use Rattle.rowpeer.specs.Record.{recordIn, recordRows, beyondOf, eventWith, Steps, Tells};
 use crate::choice::chosen;
 use crate::choice::slots;
 use base::types::Refusal;
@@ -52,18 +51,6 @@ pub fn new(t: &mut [u64; 4], rec: &mut [[[u64; 4]; ROWS]; PATH_MAX_PER_PEER], s:
     Reply::Refused(Refusal::Duration)
 }
 
-// The settings that four words say.
-fn settings(t: &[u64; 4]) -> Settings
-    ensures { λ r. ⌜ r ≡ settingsIn (now (t .entry)) ⌝ }
-{
-    Settings {
-        cap: t[0],
-        gap: t[1],
-        window: t[2],
-        horizon: t[3],
-    }
-}
-
 // The refusal of an event whose slot is none.
 fn beyond(e: Event) -> Reply
     ensures { λ r. ⌜ r ≡ beyondOf (verdictOf (refusals false e)) ⌝ }
@@ -87,7 +74,45 @@ pub fn event(t: &[u64; 4], rec: &mut [[[u64; 4]; ROWS]; PATH_MAX_PER_PEER], e: E
     if 7 < e.slot {
         return beyond(e);
     }
-    let s = settings(t);
     let i = e.slot as usize;
-    rowturns::on_rows(s, &mut rec[i], e)
+    rowturns::on_rows(t, &mut rec[i], e)
+}
+
+// An answer as document 01's number and value.
+pub struct Told {
+    pub number: u64,
+    pub value: u64,
+}
+
+// One event by its numbers, which are handed on one by one and never as a struct; the answer told as number and value.
+pub fn tell(
+    t: &[u64; 4],
+    rec: &mut [[[u64; 4]; ROWS]; PATH_MAX_PER_PEER],
+    kind: u8,
+    slot: u8,
+    flags: u8,
+    at: u64,
+    span: u64,
+    id: u32,
+    len: u32,
+    acked: u32,
+) -> Told
+    ensures { λ r. ⌜ Tells (now (t .entry)) (now (rec .entry)) (now (rec .exit)) r
+        (step (recordIn (now (t .entry)) (now (rec .entry))) (eventWith kind slot flags at span id len acked)) ⌝ }
+{
+    let e = Event {
+        now: at,
+        span: span,
+        id: id,
+        len: len,
+        acked: acked,
+        kind: kind,
+        slot: slot,
+        flags: flags,
+    };
+    let reply = event(t, rec, e);
+    Told {
+        number: turns::reply::number_of(reply),
+        value: turns::reply::value_of(reply),
+    }
 }

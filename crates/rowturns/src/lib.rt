@@ -2,6 +2,7 @@
 ghost use Rattle.live.specs.Search.{seekAnswerOf};
 ghost use Rattle.rules.specs.Rules.{answered, onSlot};
 ghost use Rattle.turns.specs.Turns.{workBy};
+ghost use Rattle.cells.specs.Cells.{settingsIn};
 ghost use Rattle.rows.specs.View.{pathIn, slotIn};
 ghost use Rattle.rows.specs.Says.{Turns};
 use base::types::Refusal;
@@ -27,20 +28,21 @@ fn answer(p: &mut [[u64; 4]; ROWS], e: Event, gap: u64) -> Reply
     answer_ring(p, e.id)
 }
 
-// The work of the event's kind, but for an open.
-fn work(t: Settings, p: &mut [[u64; 4]; ROWS], e: Event) -> Reply
-    ensures { λ r. ⌜ Turns (now (p .entry)) (now (p .exit)) r (workBy t (slotIn (now (p .entry))) e) ⌝ }
+// The work of the event's kind, but for an open; of the settings (cap, gap, window, horizon) a kind reads its own.
+fn work(t: &[u64; 4], p: &mut [[u64; 4]; ROWS], e: Event) -> Reply
+    ensures { λ r. ⌜ Turns (now (p .entry)) (now (p .exit)) r
+        (workBy (settingsIn (now (t .entry))) (slotIn (now (p .entry))) e) ⌝ }
 {
     let k = e.kind;
     match k {
         2 => probe(p, e),
-        3 => answer(p, e, t.gap),
-        4 => poll(p, e.now, first_flag(e), t.cap),
-        5 => sample(p, e, t.window, t.horizon),
+        3 => answer(p, e, t[1]),
+        4 => poll(p, e.now, first_flag(e), t[0]),
+        5 => sample(p, e, t[2], t[3]),
         6 => fold(p, first_flag(e)),
         7 => prove(p, e),
         8 => search(p, e),
-        9 => judge(p, e, t.gap),
+        9 => judge(p, e, t[1]),
         10 => received(p, e),
         11 => fresh(p),
         12 => thaw(p),
@@ -51,8 +53,9 @@ fn work(t: Settings, p: &mut [[u64; 4]; ROWS], e: Event) -> Reply
 }
 
 // The first refusal, with every word as it came; else the work.
-pub fn on_rows(t: Settings, p: &mut [[u64; 4]; ROWS], e: Event) -> Reply
-    ensures { λ r. ⌜ Turns (now (p .entry)) (now (p .exit)) r (onSlot t (slotIn (now (p .entry))) e) ⌝ }
+pub fn on_rows(t: &[u64; 4], p: &mut [[u64; 4]; ROWS], e: Event) -> Reply
+    ensures { λ r. ⌜ Turns (now (p .entry)) (now (p .exit)) r
+        (onSlot (settingsIn (now (t .entry))) (slotIn (now (p .entry))) e) ⌝ }
 {
     let held = rows::whole::used(p);
     let v = first_refusal(held, e);

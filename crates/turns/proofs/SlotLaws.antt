@@ -1,8 +1,8 @@
 -- One event on its slot, from the first refusal and the work.
 -- Assumes nothing.
 use Prim.Native.Nat.{_%_, _≤_}
-use mathlib.Core.Path.{_≡_, refl, ap, sym, _∙_}
-use mathlib.Core.Bool.{Bool, true, false, _||_, cond, false≢true}
+use mathlib.Core.Path.{_≡_, refl, sym, _∙_}
+use mathlib.Core.Bool.{Bool, true, false, _||_, cond}
 use mathlib.Core.List.{List, [], _∷_}
 use native.Mathlib.Omega.{arith}
 use borrow.Author.Tests.{lt-ltb}
@@ -16,6 +16,7 @@ use Rattle.rules.specs.declared.types.Event.{Event}
 use Rattle.rules.specs.declared.types.Slot.{Slot}
 use Rattle.rules.specs.declared.types.Turn.{Turn}
 use Rattle.rules.specs.declared.types.Reply.the-variants as reply
+use Rattle.turns.proofs.RefuseLaws.{pass-refuses}
 use Rattle.turns.specs.Turns.{verdictOf, openedAs, workBy}
 use Rattle.turns.specs.declared.refuse.Verdict.{Verdict}
 use Rattle.turns.specs.declared.refuse.Verdict.the-variants.{Pass, Refused}
@@ -30,19 +31,14 @@ unfolding byVerdict
 slot-by [] s x = refl
 slot-by (y ∷ l) s x = on-flag (y .1) (λ e. rw e) (λ e. rw e (slot-by l s x))
 
-passed : Verdict → Bool
-passed Pass = true
-passed (Refused why) = false
-
 never-pass : (a b c : Bool)
     → cond a (Refused refusal.Slot)
     (cond b (Refused refusal.Held) (cond c (Refused refusal.Flag) (Refused refusal.Length))) ≡ Pass
     → ⊥
-unfolding passed
-never-pass true b c h = false≢true (ap passed h)
-never-pass false true c h = false≢true (ap passed h)
-never-pass false false true h = false≢true (ap passed h)
-never-pass false false false h = false≢true (ap passed h)
+never-pass true b c h = pass-refuses (sym h)
+never-pass false true c h = pass-refuses (sym h)
+never-pass false false true h = pass-refuses (sym h)
+never-pass false false false h = pass-refuses (sym h)
 
 -- an open that no refusal stops has a length of at most 65,535
 open-len : (used : Bool) (e : Event) → e .kind ≡ 1 → verdictOf (refusals used e) ≡ Pass → e .len ≤ 65535

@@ -1,5 +1,11 @@
 // The refusals that are tried before the work.
 ghost use mathlib.Core.Path.{_≡_};
+ghost use mathlib.Core.Bool.{true, not, _&&_, _||_};
+ghost use mathlib.Core.List.{[], _∷_};
+ghost use lib.Dec.{eqb, leb};
+ghost use lib.ListN.{drop};
+ghost use Rattle.base.specs.Limits.{isOverlong, isUndersize, isEndless};
+ghost use Rattle.base.specs.declared.types.Refusal.the-variants.{Empty, Held, Flag, Length, Duration};
 ghost use Rattle.rules.specs.Rules.{refusals};
 ghost use Rattle.turns.specs.Turns.{verdictOf};
 use base::limits::DURATION_END;
@@ -14,6 +20,91 @@ pub enum Verdict {
     Refused(Refusal),
 }
 
+// 4 for flags from `end` on: a bit with no meaning.
+fn flag_refusal(flags: u8, end: u8) -> Verdict
+    ensures { λ r. ⌜ r ≡ verdictOf ((Flag, leb end flags) ∷ []) ⌝ }
+{
+    if end <= flags {
+        return Verdict::Refused(Refusal::Flag);
+    }
+    Verdict::Pass
+}
+
+// 5 for a length above 65,535.
+fn length_refusal(len: u32) -> Verdict
+    ensures { λ r. ⌜ r ≡ verdictOf ((Length, isOverlong len) ∷ []) ⌝ }
+{
+    if MAX_LEN < len {
+        return Verdict::Refused(Refusal::Length);
+    }
+    Verdict::Pass
+}
+
+// 5 for a full or proved size above 65,535 or below 27.
+fn size_refusal(len: u32) -> Verdict
+    ensures { λ r. ⌜ r ≡ verdictOf ((Length, isOverlong len || isUndersize len) ∷ []) ⌝ }
+{
+    if len < MIN_LEN {
+        return Verdict::Refused(Refusal::Length);
+    }
+    length_refusal(len)
+}
+
+// 4, then 5, of an open.
+fn open_refusal(flags: u8, len: u32) -> Verdict
+    ensures { λ r. ⌜ r ≡ verdictOf ((Flag, leb 128 flags) ∷ (Length, isOverlong len || isUndersize len) ∷ []) ⌝ }
+{
+    if 128 <= flags {
+        return Verdict::Refused(Refusal::Flag);
+    }
+    size_refusal(len)
+}
+
+// 6 for a duration of 2^62 or more.
+fn span_refusal(span: u64) -> Verdict
+    ensures { λ r. ⌜ r ≡ verdictOf ((Duration, isEndless span) ∷ []) ⌝ }
+{
+    if DURATION_END <= span {
+        return Verdict::Refused(Refusal::Duration);
+    }
+    Verdict::Pass
+}
+
+// The first of 4, 5 and 6: of the fields that the event's kind has, so that each kind tries its own alone.
+fn field_refusal(e: Event) -> Verdict
+    ensures { λ r. ⌜ r ≡ verdictOf (drop 4 (refusals true e)) ⌝ }
+{
+    let k = e.kind;
+    match k {
+        1 => open_refusal(e.flags, e.len),
+        2 => length_refusal(e.len),
+        3 => length_refusal(e.acked),
+        4 => flag_refusal(e.flags, 2),
+        5 => span_refusal(e.span),
+        6 => flag_refusal(e.flags, 2),
+        7 => size_refusal(e.len),
+        9 => span_refusal(e.span),
+        10 => length_refusal(e.len),
+        _ => Verdict::Pass,
+    }
+}
+
+// 3 for an open on a held slot, 2 for any other kind on an empty one.
+fn slot_refusal(used: bool, k: u8) -> Verdict
+    ensures { λ r. ⌜ r ≡ verdictOf ((Empty, not (eqb k 1) && not used) ∷ (Held, eqb k 1 && used) ∷ []) ⌝ }
+{
+    if k == 1 {
+        if used {
+            return Verdict::Refused(Refusal::Held);
+        }
+        return Verdict::Pass;
+    }
+    if used {
+        return Verdict::Pass;
+    }
+    Verdict::Refused(Refusal::Empty)
+}
+
 // The first refusal whose condition holds, of an event on a slot that is held or empty: 15 before 1, then by number.
 pub fn first_refusal(used: bool, e: Event) -> Verdict
     ensures { λ r. ⌜ r ≡ verdictOf (refusals used e) ⌝ }
@@ -25,23 +116,9 @@ pub fn first_refusal(used: bool, e: Event) -> Verdict
     if 7 < e.slot {
         return Verdict::Refused(Refusal::Slot);
     }
-    if !(k == 1) & !used {
-        return Verdict::Refused(Refusal::Empty);
+    let v = slot_refusal(used, k);
+    match v {
+        Verdict::Refused(why) => Verdict::Refused(why),
+        Verdict::Pass => field_refusal(e),
     }
-    if (k == 1) & used {
-        return Verdict::Refused(Refusal::Held);
-    }
-    if ((k == 1) & (128 <= e.flags)) | (((k == 4) | (k == 6)) & (2 <= e.flags)) {
-        return Verdict::Refused(Refusal::Flag);
-    }
-    if ((((k == 1) | ((k == 2) | ((k == 7) | (k == 10)))) & (MAX_LEN < e.len))
-        | ((k == 3) & (MAX_LEN < e.acked)))
-        | (((k == 1) | (k == 7)) & (e.len < MIN_LEN))
-    {
-        return Verdict::Refused(Refusal::Length);
-    }
-    if ((k == 5) | (k == 9)) & (DURATION_END <= e.span) {
-        return Verdict::Refused(Refusal::Duration);
-    }
-    Verdict::Pass
 }

@@ -24,14 +24,8 @@ none-taken-requires-2 c κs = search needs
 enum-known-found-2 : tie.Need-enum-known-found-2
 enum-known-found-2 c = search needs
 
-event-requires : tie.Need-event-requires
-event-requires c κs = search needs
-
-number-of-requires : tie.Need-number-of-requires
-number-of-requires c κs = search needs
-
-value-of-requires : tie.Need-value-of-requires
-value-of-requires c κs = search needs
+tell-requires : tie.Need-tell-requires
+tell-requires c κs = search needs
 
 returns : tie.Need-returns
 returns c = taken-none _ _ _ _ (sym (c .before .before .before .record-at .ensures) ∙ c .before .enum-told .given .1) (c .none-taken .ensures)
@@ -40,7 +34,7 @@ returns-2 : tie.Need-returns-2
 returns-2 c = taken-bad _ _ _ _ _ _ (sym (c .before .before .before .before .record-at .ensures) ∙ c .before .before .found .given .1) (c .none-taken2 .ensures)
 
 returns-3 : tie.Need-returns-3
-returns-3 c = taken-event _ _ _ _ _ _ _ _ _ (sym (c .before .before .before .before .before .before .before .record-at .ensures) ∙ c .before .before .before .before .before .found2 .given .1) (c .before .before .event .ensures) (c .before .number-of .ensures) (c .value-of .ensures)
+returns-3 c = taken-event _ _ _ _ _ _ _ (sym (c .before .before .before .before .before .record-at .ensures) ∙ c .before .before .before .found2 .given .1) (c .tell .ensures)
 
 pub hess-record-bytes-spec : {M : Type 1} → statement M
 hess-record-bytes-spec =
@@ -52,9 +46,7 @@ hess-record-bytes-spec =
     enum-known-found
     none-taken-requires-2
     enum-known-found-2
-    event-requires
-    number-of-requires
-    value-of-requires
+    tell-requires
     returns
     returns-2
     returns-3)

@@ -5,14 +5,11 @@ use borrow.Author.Needs.{needs}
 use Rattle.entries.proofs.record.hess_record_event.Statement.{statement}
 use Rattle.entries.proofs.record.hess_record_event.Tie as tie
 
-event-requires : tie.Need-event-requires
-event-requires c κs = search needs
-
-reply-of-requires : tie.Need-reply-of-requires
-reply-of-requires c κs = search needs
+tell-requires : tie.Need-tell-requires
+tell-requires c κs = search needs
 
 returns : tie.Need-returns
-returns c = steps-here _ _ _ _ _ _ (c .before .event .ensures) (c .reply-of .ensures)
+returns c = steps-here _ _ _ _ _ (c .tell .ensures)
 
 pub hess-record-event-spec : {M : Type 1} → statement M
-hess-record-event-spec = tie.close (tie.spec event-requires reply-of-requires returns)
+hess-record-event-spec = tie.close (tie.spec tell-requires returns)

@@ -21,9 +21,6 @@ beyond-requires c κs = search needs
 returns-2 : tie.Need-returns-2
 returns-2 c = steps-out (c .before .before .before .before .before .before .before .args .t .now) (c .before .before .before .before .before .before .before .args .rec .now) (c .before .before .before .before .before .before .before .args .e) (c .before .before .before .before .before .slots .ensures .1) (ne-eqb _ _ (c .before .before .before .if1 .left)) (c .before .if2 .taken) (c .beyond .ensures)
 
-settings-requires : tie.Need-settings-requires
-settings-requires c κs = search needs
-
 cast-i : tie.Need-cast-i
 cast-i c = search needs
 
@@ -37,7 +34,7 @@ on-rows-requires : tie.Need-on-rows-requires
 on-rows-requires c κs = search needs
 
 returns-3 : tie.Need-returns-3
-returns-3 c = steps-in (c .before .before .before .before .before .before .before .before .before .before .args .t .now) (c .before .before .before .before .before .before .before .before .before .before .args .rec .now) (c .before .before .before .before .before .before .before .before .before .before .args .e) (c .before .before .before .before .before .before .before .before .slots .ensures .1) (ne-eqb _ _ (c .before .before .before .before .before .before .if1 .left)) (c .before .before .before .before .if2 .left) (c .before .before .before .settings .ensures) (c .on-rows .ensures)
+returns-3 c = steps-in (c .before .before .before .before .before .before .before .before .before .args .t .now) (c .before .before .before .before .before .before .before .before .before .args .rec .now) (c .before .before .before .before .before .before .before .before .before .args .e) (c .before .before .before .before .before .before .before .slots .ensures .1) (ne-eqb _ _ (c .before .before .before .before .before .if1 .left)) (c .before .before .before .if2 .left) (c .on-rows .ensures)
 
 pub event-spec : {M : Type 1} → statement M
 event-spec =
@@ -48,7 +45,6 @@ event-spec =
     returns
     beyond-requires
     returns-2
-    settings-requires
     cast-i
     mul-on-rows
     index-1-on-rows
