@@ -1,6 +1,7 @@
 // Orders on f64: totalOrder on bit patterns and on values, clamp and maximum.
 ghost use mathlib.Core.Path.{_≡_};
-ghost use lib.Ieee.{binary64};
+ghost use mathlib.Core.Bool.{cond};
+ghost use lib.Ieee.{binary64, lt};
 ghost use Rattle.total.specs.Total.{totalAt, keyAt};
 ghost use Rattle.total.specs.Values.{totalOf, clampOf, maxOf};
 
@@ -44,14 +45,32 @@ pub fn total(x: f64, y: f64) -> bool
     true
 }
 
-// x where it lies within lo and hi, else the end that it is beyond. A NaN stays one.
+// x, or lo where x is below it.
+fn raised(x: f64, lo: f64) -> f64
+    ensures { λ r. ⌜ r ≡ cond (lt x lo) lo x ⌝ }
+{
+    if x < lo { lo } else { x }
+}
+
+// x, or hi where x is above it.
+fn lowered(x: f64, hi: f64) -> f64
+    ensures { λ r. ⌜ r ≡ cond (lt hi x) hi x ⌝ }
+{
+    if x > hi { hi } else { x }
+}
+
+// x where it lies within lo and hi, else the end that it is beyond. A NaN stays one. Where the ends are in their order,
+// this is two steps of the processor: its maximum, then its minimum.
 pub fn clamp(x: f64, lo: f64, hi: f64) -> f64
     ensures { λ r. ⌜ r ≡ clampOf x lo hi ⌝ }
 {
-    if x < lo {
-        return lo;
+    if hi < lo {
+        if x < lo {
+            return lo;
+        }
+        return lowered(x, hi);
     }
-    if x > hi { hi } else { x }
+    lowered(raised(x, lo), hi)
 }
 
 // The larger of the two, the first of equal ones. A NaN gives the other.
