@@ -1,5 +1,6 @@
 //! Nanoseconds an event: ours on a record in words, one C call each; the Rust's record in place, with
-//! the same refusals; ours by value, whole files through `hess_events`.
+//! the same refusals, behind a C call with the same numbers and by its own method; ours by value, whole
+//! files through `hess_events`.
 
 #[allow(dead_code)]
 mod aims;
@@ -18,6 +19,7 @@ mod ours;
 mod papers;
 mod random;
 
+use entries::Reply;
 use events::{
     ANSWER, CHOOSE, FOLD, FRESH, HEAR, JUDGE, OPEN, POLL, PROBE, PROVE, SAMPLE, SEARCH, SWEEP, THAW,
 };
@@ -167,13 +169,16 @@ fn list(name: &str, turn: Turn) -> (Vec<Event>, Vec<Event>) {
 
 fn main() {
     println!();
-    println!("| Events | on words, ns an event | the Rust's | ratio | by value | ratio |");
-    println!("|---|---|---|---|---|---|");
+    println!(
+        "| Events | on words, ns an event | the Rust's over C | ratio | its own method | ratio | by value | ratio |"
+    );
+    println!("|---|---|---|---|---|---|---|---|");
     for (name, turn) in turns() {
         let (before, events) = list(name, turn);
-        let [words, rust, value] = times(&before, &events);
+        let [words, over_c, rust, value] = times(&before, &events);
         println!(
-            "| {name} | {words:.1} | {rust:.1} | {:.2} | {value:.0} | {:.1} |",
+            "| {name} | {words:.1} | {over_c:.1} | {:.2} | {rust:.1} | {:.2} | {value:.0} | {:.1} |",
+            words / over_c,
             words / rust,
             value / rust
         );
@@ -182,8 +187,45 @@ fn main() {
     println!("A record in words: {} bytes.", Kept::size());
 }
 
-/// Medians of nanoseconds an event: on words, the Rust's, by value.
-fn times(before: &[Event], events: &[Event]) -> [f64; 3] {
+/// The Rust's record as C would call it: a number for each field of an event, number and value back.
+#[unsafe(no_mangle)]
+#[inline(never)]
+#[allow(clippy::too_many_arguments)]
+extern "C" fn rust_record_event(
+    record: &mut Record,
+    kind: u8,
+    slot: u8,
+    flags: u8,
+    now: u64,
+    span: u64,
+    id: u32,
+    len: u32,
+    acked: u32,
+) -> Reply {
+    let event = Event {
+        kind,
+        slot,
+        now,
+        span,
+        id,
+        len,
+        acked,
+        flags,
+    };
+    let (number, value) = record.event(&event);
+    Reply { number, value }
+}
+
+/// One event of the Rust's record over C.
+#[inline]
+fn over_c(record: &mut Record, e: &Event) -> u64 {
+    let fields = (e.kind, e.slot, e.flags, e.now, e.span, e.id, e.len, e.acked);
+    let (kind, slot, flags, now, span, id, len, acked) = fields;
+    rust_record_event(record, kind, slot, flags, now, span, id, len, acked).value
+}
+
+/// Medians of nanoseconds an event: on words, the Rust's over C, by its own method, by value.
+fn times(before: &[Event], events: &[Event]) -> [f64; 4] {
     let mut words = Kept::filled(|| 0);
     let mut rust = Record::new(SETTINGS).expect("allowed settings");
     assert_eq!(words.renew(SETTINGS).number, 0);
@@ -193,19 +235,20 @@ fn times(before: &[Event], events: &[Event]) -> [f64; 3] {
     }
     let file = Filed::new(SETTINGS, [before, events].concat(), || 0);
     let mut ours = Ours::default();
-    let mut all = [const { Vec::new() }; 3];
+    let mut all = [const { Vec::new() }; 4];
     let mut lists = 1;
     for n in 0..=RUNS {
         let (a, sum) = run(lists, events, &words, |words, e| words.event(e).value);
-        let (b, same) = run(lists, events, &rust, |rust, e| rust.event(e).1);
-        assert_eq!(sum, same, "ours differs from the Rust's");
-        let c = median((0..FILES).map(|_| by_value(&mut ours, &file)).collect());
+        let (b, over) = run(lists, events, &rust, over_c);
+        let (c, same) = run(lists, events, &rust, |rust, e| rust.event(e).1);
+        assert!(sum == same && sum == over, "ours differs from the Rust's");
+        let d = median((0..FILES).map(|_| by_value(&mut ours, &file)).collect());
         // The first run only says how many lists the others have.
         if n == 0 {
-            lists = 1 + (SPAN / (b * events.len() as f64)) as usize;
+            lists = 1 + (SPAN / (c * events.len() as f64)) as usize;
             continue;
         }
-        for (all, time) in all.iter_mut().zip([a, b, c]) {
+        for (all, time) in all.iter_mut().zip([a, b, c, d]) {
             all.push(time);
         }
     }
