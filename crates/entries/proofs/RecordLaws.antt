@@ -1,6 +1,6 @@
 -- A record in lent words over C: from what rowpeer's functions leave to what C is told.
 -- Assumes nothing.
-use Prim.Native.Nat.{ℕ}
+use Prim.Native.Nat.{ℕ, _^_, _/_, _%_}
 use mathlib.Core.Path.{_≡_, refl, sym, ap, subst, _∙_}
 use mathlib.Core.List.{List}
 use Rattle.base.specs.declared.types.Refusal.{Refusal}
@@ -10,15 +10,13 @@ use Rattle.rules.specs.declared.types.Event.{Event}
 use Rattle.eventfile.specs.declared.types.Parse.{Parse}
 use Rattle.eventfile.specs.declared.types.Parse.the-variants as parse
 use Rattle.rowpeer.specs.Record.{recordIn, Tells}
-use Rattle.rowpeer.specs.declared.record.Told.{Told}
 use Rattle.entries.specs.Record.{StepsHere, noneTaken, takenBy, TakenHere}
 use Rattle.entries.specs.declared.record.Taken.{Taken}
 
 -- an event, its answer as C has it
-pub steps-here : (t : List ℕ) (a b : List (List (List ℕ))) (r : Told) (e : Event) → Tells t a b r (step (recordIn t a) e)
-    → StepsHere t a b (record { number = r .number; value = r .value }) e
-steps-here t a b r e p =
-    ((λ j. record { number = p .0 j .number; value = p .0 j .value }), p .1)
+pub steps-here : (t : List ℕ) (a b : List (List (List ℕ))) (w : ℕ) (e : Event) → Tells t a b w (step (recordIn t a) e)
+    → StepsHere t a b (record { number = w / 2 ^ 32; value = w % 2 ^ 32 }) e
+steps-here t a b w e p = ((λ j. record { number = p .0 j; value = p .1 j }), p .2)
 
 -- no bytes
 pub taken-none : (t : List ℕ) (a : List (List (List ℕ))) (p : Parse) (r : Taken) → p ≡ parse.End → r ≡ noneTaken Cut
@@ -35,12 +33,12 @@ abbrev takenWith : ℕ → ℕ → ℕ → Taken
 takenWith n v size = record { number = n; value = v; read = size }
 
 -- an event that was read
-pub taken-event : (t : List ℕ) (a b : List (List (List ℕ))) (p : Parse) (e : Event) (size : ℕ) (r : Told)
-    → p ≡ parse.Event e size → Tells t a b r (step (recordIn t a) e)
-    → (takenWith (r .number) (r .value) size ≡ takenBy (recordIn t a) p) × TakenHere t a b p
-taken-event t a b p e size r h q =
-    let same : takenWith (r .number) (r .value) size ≡ takenBy (recordIn t a) (parse.Event e size) =
-    λ k. takenWith (q .0 k .number) (q .0 k .value) size in (
+pub taken-event : (t : List ℕ) (a b : List (List (List ℕ))) (p : Parse) (e : Event) (size : ℕ) (w : ℕ)
+    → p ≡ parse.Event e size → Tells t a b w (step (recordIn t a) e)
+    → (takenWith (w / 2 ^ 32) (w % 2 ^ 32) size ≡ takenBy (recordIn t a) p) × TakenHere t a b p
+taken-event t a b p e size w h q =
+    let same : takenWith (w / 2 ^ 32) (w % 2 ^ 32) size ≡ takenBy (recordIn t a) (parse.Event e size) =
+    λ k. takenWith (q .0 k) (q .1 k) size in (
       same ∙ sym (ap (takenBy (recordIn t a)) h),
-      subst (TakenHere t a b) (sym h) (q .1),
+      subst (TakenHere t a b) (sym h) (q .2),
     )

@@ -17,6 +17,9 @@ use base::types::Refusal;
 use eventfile::types::Parse;
 use rules::types::Settings;
 
+// An answer in one word has its value below this, and its number above.
+const WORD_VALUES: u64 = 0x1_0000_0000;
+
 // A refusal number, 0 if accepted, the value, 0 if refused, and how many bytes the event's record has, 0 where none
 // could be read.
 #[repr(C)]
@@ -84,10 +87,10 @@ pub extern "C" fn hess_record_event(
     ensures { λ r. ⌜ StepsHere (now (settings .entry)) (now (slots .entry)) (now (slots .exit)) r
         (eventWith kind slot flags at span id len acked) ⌝ }
 {
-    let told = rowpeer::record::tell(settings, slots, kind, slot, flags, at, span, id, len, acked);
+    let w = rowpeer::record::tell(settings, slots, kind, slot, flags, at, span, id, len, acked);
     Reply {
-        number: told.number,
-        value: told.value,
+        number: w / WORD_VALUES,
+        value: w % WORD_VALUES,
     }
 }
 
@@ -119,7 +122,7 @@ pub extern "C" fn hess_record_bytes(
         Parse::End => none_taken(Refusal::Cut),
         Parse::Refused(why, kind) => none_taken(why),
         Parse::Event(e, next) => {
-            let told = rowpeer::record::tell(
+            let w = rowpeer::record::tell(
                 settings,
                 slots,
                 e.kind,
@@ -132,8 +135,8 @@ pub extern "C" fn hess_record_bytes(
                 e.acked,
             );
             Taken {
-                number: told.number,
-                value: told.value,
+                number: w / WORD_VALUES,
+                value: w % WORD_VALUES,
                 read: next as u64,
             }
         }

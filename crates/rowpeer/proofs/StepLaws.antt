@@ -1,11 +1,11 @@
 -- One event on a record in words, by choose, a slot of the record, or one that is none.
 -- Assumes nothing.
-use Prim.Native.Nat.{ℕ, _<_, _≤_}
+use Prim.Native.Nat.{ℕ, _^_, _/_, _%_, _<_, _≤_}
 use mathlib.Core.Path.{_≡_, refl, ap, sym, subst, _∙_}
 use mathlib.Core.Bool.{true, false, _||_}
 use mathlib.Core.List.{List, [], map}
 use native.Mathlib.Omega.{arith}
-use borrow.Author.Tests.{lt-ltb}
+use borrow.Author.Tests.{lt-ltb, eqb-true}
 use lib.Dec.{eqb, ltb}
 use lib.ListN.{length, set, getD, length-map, List·getD-map}
 use lib.Seq.{set-getD}
@@ -16,10 +16,13 @@ use Rattle.rules.specs.Step.{put, step}
 use Rattle.rules.specs.declared.types.Event.{Event}
 use Rattle.rules.specs.declared.types.Reply.{Reply}
 use Rattle.rules.specs.declared.types.Settings.{Settings}
+use Rattle.rules.specs.declared.types.Slot.{Slot}
 use Rattle.rules.specs.declared.types.Stepped.{Stepped}
 use Rattle.rules.specs.declared.types.Turn.{Turn}
 use Rattle.choosing.specs.Choosing.{chosenOf}
-use Rattle.turns.specs.Turns.{verdictOf}
+use Rattle.choosing.proofs.BelowLaws.{chosen-below}
+use Rattle.turns.specs.Turns.{verdictOf, wordOf, isChosen}
+use Rattle.turns.proofs.ReplyLaws.{slot-unchosen}
 use Rattle.peer.proofs.EventLaws.{getD-any, step-choose, step-in, step-out}
 use Rattle.cells.specs.Cells.{settingsIn}
 use Rattle.rows.specs.View.{slotIn}
@@ -87,10 +90,29 @@ module _ (t : List ℕ) (a : List (List (List ℕ))) (e : Event) where
         left = λ r. ap (λ (z : List (List ℕ)). set a i z) (u .left r) ∙ set-getD a i [];
       }
 
--- an answer told by its number and its value
-pub tells : {t : List ℕ} {a b : List (List (List ℕ))} {x : Reply} {s : Stepped} {n v : ℕ} → Steps t a b x s
-    → n ≡ numberOf x → v ≡ valueOf x → Tells t a b (record { number = n; value = v }) s
-tells {t} {a} {b} {x} {s} h e f = (
-  (λ j. record { number = (e ∙ ap numberOf (h .answer)) j; value = (f ∙ ap valueOf (h .answer)) j }),
-  subst (λ (y : Reply). Steps t a b y s) (h .answer) h,
-)
+-- ---- an answer in one word
+
+module _ {t : List ℕ} {a b : List (List (List ℕ))} (e : Event) {x : Reply} (h : Steps t a b x (step (recordIn t a) e)) where
+  -- the value of a choice is a slot's number; any other answer's is below 2^32 by its type
+  value-small : length a ≡ 8 → (isChosen x ≡ false → valueOf x < 2 ^ 32) → valueOf x < 2 ^ 32
+  unfolding step
+  value-small n small =
+      on-flag (eqb (e .kind) 15)
+      (λ k.
+      let q : valueOf x ≡ valueOf (chosenOf (map slotIn a) (e .span)) =
+      ap valueOf (h .answer ∙ ap (λ (z : Stepped). z .reply) (step-choose (recordIn t a) e (eqb-true _ _ k))) in
+      omega (arith, n, length-map a slotIn, chosen-below (map slotIn a) (e .span)))
+      (λ k.
+      let s : Slot = getD (map slotIn a) (e .slot) emptySlot in
+      let q : step (recordIn t a) e .reply ≡ onSlot (settingsIn t) s e .reply = rw k in
+      small (ap isChosen (h .answer ∙ q) ∙ slot-unchosen (settingsIn t) s e))
+
+  pub tells : {w : ℕ} → length a ≡ 8 → (w ≡ wordOf x) × (isChosen x ≡ false → valueOf x < 2 ^ 32)
+      → Tells t a b w (step (recordIn t a) e)
+  tells {w} n g =
+      let v : valueOf x < 2 ^ 32 = value-small n (g .1) in
+      let word : w ≡ wordOf x = g .0 in (
+        (let d : w / 2 ^ 32 ≡ numberOf x = omega arith in d ∙ ap numberOf (h .answer)),
+        (let d : w % 2 ^ 32 ≡ valueOf x = omega arith in d ∙ ap valueOf (h .answer)),
+        subst (λ (y : Reply). Steps t a b y (step (recordIn t a) e)) (h .answer) h,
+      )

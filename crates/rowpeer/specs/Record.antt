@@ -1,6 +1,6 @@
 -- The record that lent words say, the encoder's words for a record, and what an event on them leaves. t are the four
 -- words of the settings, a the eight slots before and b those after.
-use Prim.Native.Nat.{ℕ}
+use Prim.Native.Nat.{ℕ, _^_, _/_, _%_}
 use mathlib.Core.Path.{_≡_}
 use mathlib.Core.Bool.{true}
 use mathlib.Core.List.{List, map}
@@ -17,7 +17,6 @@ use Rattle.cells.specs.Cells.{settingsIn}
 use Rattle.rows.specs.View.{slotIn}
 use Rattle.rows.specs.Encode.{slotRows}
 use Rattle.rows.specs.Says.{isRefused}
-use Rattle.rowpeer.specs.declared.record.Told.{Told}
 
 -- what any words say
 abbrev pub recordIn : List ℕ → List (List (List ℕ)) → Record
@@ -53,13 +52,11 @@ eventWith kind slot flags at span id len acked =
       flags = flags;
     }
 
--- an answer by its number and its value
-abbrev pub toldOf : Reply → Told
-toldOf x = record { number = numberOf x; value = valueOf x }
-
--- an event whose answer is told by number and value: they are those of s, and the words are as `Steps` has them
-abbrev pub Tells : List ℕ → List (List (List ℕ)) → List (List (List ℕ)) → Told → Stepped → Type 0
-Tells t a b r s = (r ≡ toldOf (s .reply)) × Steps t a b (s .reply) s
+-- an event whose answer is one word: its upper half is the refusal number of s, its lower half the value; and the words
+-- of the slots are as `Steps` has them
+abbrev pub Tells : List ℕ → List (List (List ℕ)) → List (List (List ℕ)) → ℕ → Stepped → Type 0
+Tells t a b w s =
+    (w / 2 ^ 32 ≡ numberOf (s .reply)) × (w % 2 ^ 32 ≡ valueOf (s .reply)) × Steps t a b (s .reply) s
 
 -- the answer to an event whose slot is none, by the first refusal: 15, else 1
 abbrev pub beyondOf : Verdict → Reply

@@ -78,13 +78,8 @@ pub fn event(t: &[u64; 4], rec: &mut [[[u64; 4]; ROWS]; PATH_MAX_PER_PEER], e: E
     rowturns::on_rows(t, &mut rec[i], e)
 }
 
-// An answer as document 01's number and value.
-pub struct Told {
-    pub number: u64,
-    pub value: u64,
-}
-
-// One event by its numbers, which are handed on one by one and never as a struct; the answer told as number and value.
+// One event by its numbers, which are handed on one by one and never as a struct; the answer is one word: the refusal
+// number times 2^32, and the value.
 pub fn tell(
     t: &[u64; 4],
     rec: &mut [[[u64; 4]; ROWS]; PATH_MAX_PER_PEER],
@@ -96,10 +91,11 @@ pub fn tell(
     id: u32,
     len: u32,
     acked: u32,
-) -> Told
+) -> u64
     ensures { λ r. ⌜ Tells (now (t .entry)) (now (rec .entry)) (now (rec .exit)) r
         (step (recordIn (now (t .entry)) (now (rec .entry))) (eventWith kind slot flags at span id len acked)) ⌝ }
 {
+    slots(rec);
     let e = Event {
         now: at,
         span: span,
@@ -110,9 +106,5 @@ pub fn tell(
         slot: slot,
         flags: flags,
     };
-    let reply = event(t, rec, e);
-    Told {
-        number: turns::reply::number_of(reply),
-        value: turns::reply::value_of(reply),
-    }
+    turns::reply::word_of(event(t, rec, e))
 }

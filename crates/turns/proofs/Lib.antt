@@ -2,3 +2,4 @@
 pub mod WorkLaws
 pub mod SlotLaws
 pub mod RefuseLaws
+pub mod ReplyLaws

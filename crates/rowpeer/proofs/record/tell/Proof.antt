@@ -5,17 +5,17 @@ use borrow.Author.Needs.{needs}
 use Rattle.rowpeer.proofs.record.tell.Statement.{statement}
 use Rattle.rowpeer.proofs.record.tell.Tie as tie
 
+slots-requires : tie.Need-slots-requires
+slots-requires c κs = search needs
+
 event-requires : tie.Need-event-requires
 event-requires c κs = search needs
 
-number-of-requires : tie.Need-number-of-requires
-number-of-requires c κs = search needs
-
-value-of-requires : tie.Need-value-of-requires
-value-of-requires c κs = search needs
+word-of-requires : tie.Need-word-of-requires
+word-of-requires c κs = search needs
 
 returns : tie.Need-returns
-returns c = tells (c .before .before .event .ensures) (c .before .number-of .ensures) (c .value-of .ensures)
+returns c = tells _ (c .before .event .ensures) (c .before .before .before .slots .ensures .1) (c .word-of .ensures)
 
 pub tell-spec : {M : Type 1} → statement M
-tell-spec = tie.close (tie.spec event-requires number-of-requires value-of-requires returns)
+tell-spec = tie.close (tie.spec slots-requires event-requires word-of-requires returns)
