@@ -1,8 +1,8 @@
 // The choice over a record's slots.
 ghost use mathlib.Core.Path.{_≡_};
 ghost use Rattle.scores.specs.Scores.{scoreIn, isScored, timeIn, isTimed};
-ghost use Rattle.rules.specs.Step.{rivalOf, rivalsAt, isMargin, choiceReply};
-ghost use Rattle.choosing.specs.Choosing.{chosenOf};
+ghost use Rattle.rules.specs.Step.{rivalOf, rivalsAt, isMargin};
+ghost use Rattle.choosing.specs.Choosing.{chosenReply, chosenOf};
 use base::types::*;
 use rules::types::*;
 use scores::MaybeScore;
@@ -102,13 +102,13 @@ pub fn is_margin(m: f64) -> bool
     (1.0 <= m) & (m < 1.0 / 0.0)
 }
 
-// The slot that a choice takes, or that no path is open.
-pub fn choice_reply(m: MaybeRival) -> Reply
-    ensures { λ r. ⌜ r ≡ choiceReply m ⌝ }
+// The slot that a choice takes, or its refusal.
+pub fn choice_reply(m: Chosen) -> Reply
+    ensures { λ r. ⌜ r ≡ chosenReply m ⌝ }
 {
     match m {
-        MaybeRival::Some(r) => Reply::Chosen(r.index),
-        MaybeRival::None => Reply::Refused(Refusal::NoPath),
+        Chosen::Slot(n) => Reply::Chosen(n),
+        Chosen::Refused(why) => Reply::Refused(why),
     }
 }
 

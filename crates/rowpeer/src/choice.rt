@@ -2,6 +2,7 @@
 ghost use mathlib.Core.Path.{_≡_};
 ghost use mathlib.Core.List.{map};
 ghost use lib.ListN.{length};
+ghost use Rattle.select.specs.Slim.{slimOf};
 ghost use Rattle.rules.specs.Step.{rivalsAt};
 ghost use Rattle.choosing.specs.Choosing.{chosenOf};
 ghost use Rattle.rows.specs.View.{slotIn};
@@ -25,9 +26,9 @@ pub fn slots(rec: &[[[u64; 4]; ROWS]; PATH_MAX_PER_PEER]) -> usize
     count(rec)
 }
 
-// The eight slots as rivals, each under its number.
+// The eight slots as rivals, each under its number, as a choice reads them.
 fn rivals(rec: &[[[u64; 4]; ROWS]; PATH_MAX_PER_PEER]) -> [Rival; PATH_MAX_PER_PEER]
-    ensures { λ r. ⌜ r ≡ rivalsAt 0 (map slotIn (now (rec .entry))) ⌝ }
+    ensures { λ r. ⌜ r ≡ map slimOf (rivalsAt 0 (map slotIn (now (rec .entry)))) ⌝ }
 {
     slots(rec);
     let none = Rival::none();

@@ -1,5 +1,6 @@
 // What is read off a slot's rows: the slot as a rival, and its standing.
 ghost use mathlib.Core.Path.{_≡_};
+ghost use Rattle.select.specs.Slim.{slimOf};
 ghost use Rattle.rules.specs.Step.{rivalOf};
 ghost use Rattle.standing.specs.Standing.{standingOf};
 ghost use Rattle.rows.specs.View.{pathIn, slotIn};
@@ -15,31 +16,30 @@ use seek::types::Sizes;
 use select::types::*;
 use standing::types::Standing;
 
-// The slot as a rival, under its number.
+// The slot as a rival, under its number, without its score over the horizon and its base round trip: a choice reads
+// neither.
 pub fn rival(i: usize, p: &[[u64; 4]; ROWS]) -> Rival
-    ensures { λ r. ⌜ r ≡ rivalOf i (slotIn (now (p .entry))) ⌝ }
+    ensures { λ r. ⌜ r ≡ slimOf (rivalOf i (slotIn (now (p .entry)))) ⌝ }
 {
     let x = etx(p);
     let least = min_rtt(p);
-    let base = base_rtt(p);
     let rtt = trip(p);
     let score = scores::score_of(x, least);
-    let steady = scores::score_of(x, base);
     let label = label(p);
     let role = label.role;
     let medium = label.medium;
     Rival {
         score: score_in(score),
-        steady: score_in(steady),
+        steady: 0.0,
         rtt: time_in(rtt),
-        base: time_in(base),
+        base: 0,
         index: i,
         tier: select::media::tier(role),
         held: used(p),
         scored: is_scored(score),
-        steadied: is_scored(steady),
+        steadied: false,
         timed: is_timed(rtt),
-        based: is_timed(base),
+        based: false,
         preferred: label.preferred,
         pinned: label.pinned,
         fits: label.fits,

@@ -13,7 +13,6 @@ use Rattle.rtt.specs.Samples.{keptSamples, samplePlace, newSample, withSample}
 use Rattle.rtt.specs.Spans.{noSpan, keptSpans, newestSpan, spanPlace, joinsOf, joinedOf, newSpan, openedOf, enteredOf}
 use Rattle.rtt.specs.Spans.{spanOf}
 use Rattle.rtt.specs.declared.types.Span.{Span}
-use Rattle.rtt.specs.declared.types.Rtts.{Rtts}
 use Rattle.live.specs.Path.{withTraffic, withEtx}
 use Rattle.live.specs.Times.{sampleOf, foldedOf, heardOf, carriedOf}
 use Rattle.live.specs.declared.types.Liveness.{Liveness}
@@ -77,10 +76,6 @@ fold-made {a} {b} on e f w =
     turns-by (says-as w (ap (withEtx (pathIn a)) (f ∙ ap (λ (z : Float). foldOf z on) e))) refl refl
 
 -- ---- sample
-
--- what has been measured, loaded part by part
-pub rtts-made : {r : Rtts} (x : Rtts) → r .samples ≡ x .samples → r .spans ≡ x .spans → r .rtt ≡ x .rtt → r ≡ x
-rtts-made x e f g = λ j. record { samples = e j; spans = f j; rtt = g j }
 
 -- the samples: those older than the window dropped, then one more stored
 pub window-made : {a b c : List (List ℕ)} (now x window : ℕ) {slot : ℕ}

@@ -4,5 +4,7 @@ mod ScanLaws
 pub mod OrderLaws
 mod RankLaws
 mod PickLaws
+mod LeadLaws
 pub mod ChoiceLaws
 pub mod PickedLaws
+pub mod SlimLaws

@@ -28,8 +28,9 @@ use Rattle.select.specs.declared.types.Rival.{Rival}
 use Rattle.select.specs.declared.passes.Gate.{Gate}
 use Rattle.select.specs.declared.types.MaybeRival.{MaybeRival}
 use Rattle.select.specs.declared.types.MaybeRival.the-variants.{None, Some}
-use Rattle.select.specs.declared.passes.Test.the-variants as test
-use Rattle.select.specs.declared.passes.Want.the-variants.{Scored, Preferred, Quicker, Timed}
+use Rattle.select.specs.Passes.Test.{Long}
+use Rattle.select.specs.Passes.Want.{Scored, Preferred, Quicker, Timed}
+use Rattle.select.specs.declared.types.Chosen.{Chosen}
 use Rattle.select.specs.declared.types.Chosen.the-variants as chosen
 use Rattle.select.specs.declared.types.BestAnswer.the-variants as best
 use Rattle.select.proofs.RankLaws.{
@@ -97,20 +98,20 @@ module _ (l : List Rival) {g : Gate} {first : MaybeRival} (e : g ≡ gateOf l) (
 -- ---- the refusals and the answers
 
 module _ (l : List Rival) where
-  long-not : every (lacksOf test.Long) l ≡ false → isLongHeld l ≡ true
+  long-not : every (lacksOf Long) l ≡ false → isLongHeld l ≡ true
   long-not e = long-is l ∙ ap not e
 
-  long-none : every (lacksOf test.Long) l ≡ true → isLongHeld l ≡ false
+  long-none : every (lacksOf Long) l ≡ true → isLongHeld l ≡ false
   long-none e = long-is l ∙ ap not e
 
   module _ (margin : Float) where
-    pub choose-long : every (lacksOf test.Long) l ≡ false → chosen.Refused Duration ≡ chooseOf l margin
+    pub choose-long : every (lacksOf Long) l ≡ false → chosen.Refused Duration ≡ chooseOf l margin
     unfolding chooseOf
     choose-long e =
         sym (ap (λ (b : Bool). cond b (chosen.Refused Duration)
         (cond (not (placed 0 l)) (chosen.Refused Index) (slotOf (pickedOf l margin)))) (long-not e))
 
-    pub choose-index : every (lacksOf test.Long) l ≡ true → placed 0 l ≡ false
+    pub choose-index : every (lacksOf Long) l ≡ true → placed 0 l ≡ false
         → chosen.Refused Index ≡ chooseOf l margin
     unfolding chooseOf
     choose-index e p =
@@ -119,23 +120,23 @@ module _ (l : List Rival) where
         (slotOf (pickedOf l margin)))) (long-none e)
         ∙ ap (λ (b : Bool). cond (not b) (chosen.Refused Index) (slotOf (pickedOf l margin))) p)
 
-    pub choose-slot : {k x : MaybeRival} → every (lacksOf test.Long) l ≡ true → placed 0 l ≡ true
-        → k ≡ pickedOf l margin → k ≡ x → slotOf x ≡ chooseOf l margin
+    pub choose-slot : {k : Chosen} → every (lacksOf Long) l ≡ true → placed 0 l ≡ true
+        → k ≡ slotOf (pickedOf l margin) → k ≡ chooseOf l margin
     unfolding chooseOf
-    choose-slot {k} {x} e p f h =
+    choose-slot {k} e p f =
         sym
         (ap (λ (b : Bool). cond b (chosen.Refused Duration) (cond (not (placed 0 l)) (chosen.Refused Index)
         (slotOf (pickedOf l margin)))) (long-none e)
         ∙ ap (λ (b : Bool). cond (not b) (chosen.Refused Index) (slotOf (pickedOf l margin))) p
-        ∙ ap slotOf (sym f ∙ h))
+        ∙ sym f)
 
-  pub best-long : every (lacksOf test.Long) l ≡ false → best.Refused Duration ≡ bestOf l
+  pub best-long : every (lacksOf Long) l ≡ false → best.Refused Duration ≡ bestOf l
   unfolding bestOf
   best-long e =
       sym (ap (λ (b : Bool). cond b (best.Refused Duration) (cond (not (placed 0 l)) (best.Refused Index)
       (bestScore (firstBy byScore (scoredOf (rankedOf l)))))) (long-not e))
 
-  pub best-index : every (lacksOf test.Long) l ≡ true → placed 0 l ≡ false → best.Refused Index ≡ bestOf l
+  pub best-index : every (lacksOf Long) l ≡ true → placed 0 l ≡ false → best.Refused Index ≡ bestOf l
   unfolding bestOf
   best-index e p =
       sym
@@ -143,7 +144,7 @@ module _ (l : List Rival) where
       (bestScore (firstBy byScore (scoredOf (rankedOf l)))))) (long-none e)
       ∙ ap (λ (b : Bool). cond (not b) (best.Refused Index) (bestScore (firstBy byScore (scoredOf (rankedOf l))))) p)
 
-  pub best-score : {g : Gate} {k x : MaybeRival} → every (lacksOf test.Long) l ≡ true → placed 0 l ≡ true → g ≡ gateOf l
+  pub best-score : {g : Gate} {k x : MaybeRival} → every (lacksOf Long) l ≡ true → placed 0 l ≡ true → g ≡ gateOf l
       → k ≡ firstTaken (Scored g) l → k ≡ x → bestScore x ≡ bestOf l
   unfolding bestOf
   best-score {g} {k} {x} e p i f h =

@@ -25,8 +25,8 @@ use Rattle.select.specs.Choice.{
 use Rattle.select.specs.Passes.{isNamed, isRanked, lacksOf, gateOf, takesOf, firstTaken}
 use Rattle.select.specs.declared.types.Rival.{Rival}
 use Rattle.select.specs.declared.types.Medium.{Medium}
-use Rattle.select.specs.declared.passes.Test.the-variants as test
-use Rattle.select.specs.declared.passes.Want.the-variants.{Scored, Preferred, Quicker, Timed}
+use Rattle.select.specs.Passes.Test.{Long, Pinned}
+use Rattle.select.specs.Passes.Want.{Scored, Preferred, Quicker, Timed}
 use Rattle.base.proofs.LeastLaws.{unexceeded}
 use Rattle.base.proofs.KeepLaws.{keep-same, keep-keep, none-keep, only-keep}
 
@@ -35,15 +35,15 @@ abbrev highestOf : List Rival → ℕ
 highestOf l = foldl max 0 (map (λ r. r .tier) l)
 
 -- 6 over the held rivals
-pub long-is : (l : List Rival) → isLongHeld l ≡ not (every (lacksOf test.Long) l)
+pub long-is : (l : List Rival) → isLongHeld l ≡ not (every (lacksOf Long) l)
 long-is l = ap not (none-keep isLong (λ (r : Rival). r .held) l)
 
 -- those that the pins leave
-named-is : (l : List Rival) → namedOf l ≡ keep (isNamed (not (every (lacksOf test.Pinned) l))) l
+named-is : (l : List Rival) → namedOf l ≡ keep (isNamed (not (every (lacksOf Pinned) l))) l
 named-is l =
     ap (λ (n : Bool). cond n (rivalsOf l) (keep (λ (r : Rival). r .pinned) (rivalsOf l)))
     (none-keep (λ (r : Rival). r .pinned) (λ (r : Rival). r .held) l)
-    ∙ only-keep (λ (r : Rival). r .pinned) (λ (r : Rival). r .held) (every (lacksOf test.Pinned) l) l
+    ∙ only-keep (λ (r : Rival). r .pinned) (λ (r : Rival). r .held) (every (lacksOf Pinned) l) l
 
 -- of a list kept by a test, the highest tier, and of it the fitting, if any
 fit-is : (q : Rival → Bool) (l : List Rival) → onlyAny (λ r. r .fits) (highOf (keep q l))
@@ -63,7 +63,7 @@ pub ranked-is : (l : List Rival) → rankedOf l ≡ keep (isRanked (gateOf l)) l
 unfolding rankedOf gateOf
 ranked-is l =
     ap (λ (m : List Rival). onlyAny (λ (r : Rival). r .fits) (highOf m)) (named-is l)
-    ∙ fit-is (isNamed (not (every (lacksOf test.Pinned) l))) l
+    ∙ fit-is (isNamed (not (every (lacksOf Pinned) l))) l
 
 -- ---- the scans
 

@@ -6,3 +6,4 @@ pub mod Hold
 pub mod Carried
 pub mod Answers
 pub mod Passes
+pub mod Slim

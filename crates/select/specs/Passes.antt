@@ -2,22 +2,37 @@
 -- field asks the tests of document 01's "Choice" of each rival at once: proofs/RankLaws.antt proves that it keeps what
 -- the lists of specs/Choice.antt keep.
 use Prim.Native.Nat.{ℕ, max}
-use mathlib.Core.Bool.{Bool, not, cond, _&&_, _||_}
+use mathlib.Core.Bool.{Bool, true, false, not, cond, _&&_, _||_}
 use mathlib.Core.List.{List, map, foldl}
-use lib.Dec.{eqb}
-use lib.Ieee.{le}
+use lib.Dec.{ltb, eqb}
+use lib.Ieee.{Float, binary64, ofBits, mul, le}
 use Rattle.base.specs.Seq.{every, keep}
-use Rattle.select.specs.Media.{quickerOf}
+use Rattle.total.specs.Values.{totalOf}
+use Rattle.select.specs.Media.{speedOf, quickerOf}
 use Rattle.select.specs.Rivals.{isLong, byScore, byMedium, byTrip}
 use Rattle.select.specs.Choice.{firstBy}
+use Rattle.select.specs.declared.types.Medium.{Medium}
 use Rattle.select.specs.declared.types.Rival.{Rival}
 use Rattle.select.specs.declared.types.MaybeRival.{MaybeRival}
 use Rattle.select.specs.declared.types.MaybeRival.the-variants.{None, Some}
 use Rattle.select.specs.declared.passes.Gate.{Gate}
-use Rattle.select.specs.declared.passes.Test.{Test}
-use Rattle.select.specs.declared.passes.Test.the-variants as test
-use Rattle.select.specs.declared.passes.Want.{Want}
-use Rattle.select.specs.declared.passes.Want.the-variants as want
+use Rattle.select.specs.declared.passes.Bid.{Bid}
+use Rattle.select.specs.declared.passes.Lead.{Lead}
+
+-- what a test over the field asks of a rival: a duration that is too long; a pin; in the highest tier that the pins
+-- leave, that it fits
+pub data Test : Type 0 where
+  Long : Test
+  Pinned : Test
+  Fits : (pinned : Bool) (top : ℕ) → Test
+
+-- what a scan looks for among the ranked: the scored; the preferred near a limit; those near a limit over a quicker
+-- medium, preferred ones only where one was picked; all, by their round trips
+pub data Want : Type 0 where
+  Scored : (g : Gate) → Want
+  Preferred : (g : Gate) (limit : Float) → Want
+  Quicker : (g : Gate) (limit : Float) (only : Bool) (m : Medium) → Want
+  Timed : (g : Gate) → Want
 
 -- a rival that the pins leave, where `pinned` says that there is one
 abbrev pub isNamed : Bool → Rival → Bool
@@ -29,9 +44,9 @@ isRanked g r = (isNamed (g .pinned) r && eqb (r .tier) (g .top)) && (r .fits || 
 
 -- what a test asks for: a round trip that is too long, a pin, and in the highest tier that the rival fits
 abbrev pub asksOf : Test → Rival → Bool
-asksOf test.Long r = r .held && isLong r
-asksOf test.Pinned r = r .held && r .pinned
-asksOf (test.Fits pinned top) r = (isNamed pinned r && eqb (r .tier) top) && r .fits
+asksOf Long r = r .held && isLong r
+asksOf Pinned r = r .held && r .pinned
+asksOf (Fits pinned top) r = (isNamed pinned r && eqb (r .tier) top) && r .fits
 
 -- and that a rival does not have
 abbrev pub lacksOf : Test → Rival → Bool
@@ -43,38 +58,120 @@ topOf pinned l = foldl max 0 (map (λ r. r .tier) (keep (isNamed pinned) l))
 
 -- whether one is pinned, the highest tier, whether one of it fits
 abbrev pub gateFrom : Bool → ℕ → List Rival → Gate
-gateFrom pinned top l = record { top = top; pinned = pinned; fit = not (every (lacksOf (test.Fits pinned top)) l) }
+gateFrom pinned top l = record { top = top; pinned = pinned; fit = not (every (lacksOf (Fits pinned top)) l) }
 
 -- who is ranked in a field
 unfoldable pub gateOf : List Rival → Gate
 gateOf l =
-    let pinned = not (every (lacksOf test.Pinned) l) in
+    let pinned = not (every (lacksOf Pinned) l) in
     gateFrom pinned (topOf pinned l) l
 
 -- the ranked that a scan takes
 abbrev pub takesOf : Want → Rival → Bool
-takesOf (want.Scored g) r = isRanked g r && r .scored
-takesOf (want.Preferred g limit) r = ((isRanked g r && r .scored) && le (r .score) limit) && r .preferred
-takesOf (want.Quicker g limit only m) r =
+takesOf (Scored g) r = isRanked g r && r .scored
+takesOf (Preferred g limit) r = ((isRanked g r && r .scored) && le (r .score) limit) && r .preferred
+takesOf (Quicker g limit only m) r =
     (((isRanked g r && r .scored) && le (r .score) limit) && (r .preferred || not only)) && quickerOf (r .medium) m
-takesOf (want.Timed g) r = isRanked g r
+takesOf (Timed g) r = isRanked g r
 
 -- the order of a scan
 abbrev pub beforeOf : Want → Rival → Rival → Bool
-beforeOf (want.Scored g) = byScore
-beforeOf (want.Preferred g limit) = byScore
-beforeOf (want.Quicker g limit only m) = byMedium
-beforeOf (want.Timed g) = byTrip
+beforeOf (Scored g) = byScore
+beforeOf (Preferred g limit) = byScore
+beforeOf (Quicker g limit only m) = byMedium
+beforeOf (Timed g) = byTrip
 
 -- the better of what there is and one more
 abbrev pub betterOf : (Rival → Rival → Bool) → MaybeRival → Rival → MaybeRival
 betterOf before None r = Some r
 betterOf before (Some a) r = cond (before r a) (Some r) (Some a)
 
--- the better of what a scan has found and one more
-abbrev pub betterIn : Want → MaybeRival → Rival → MaybeRival
-betterIn w f r = betterOf (beforeOf w) f r
-
 -- what a scan finds
 abbrev pub firstTaken : Want → List Rival → MaybeRival
 firstTaken w l = firstBy (beforeOf w) (keep (takesOf w) l)
+
+-- ---- the scans among the scored, over bids
+
+-- a place of the bids before it is filled
+abbrev pub noBid : Bid
+noBid = record { score = ofBits binary64 0; index = 0; speed = 0; preferred = false; on = false }
+
+-- a rival as a bid
+abbrev pub bidOf : Gate → Rival → Bid
+bidOf g r =
+    record {
+      score = r .score;
+      index = r .index;
+      speed = speedOf (r .medium);
+      preferred = r .preferred;
+      on = isRanked g r && r .scored;
+    }
+
+-- nothing found
+abbrev pub noLead : Lead
+noLead = record { score = ofBits binary64 0; index = 0; speed = 0; found = false }
+
+-- a bid as found
+abbrev pub leadOf : Bid → Lead
+leadOf b = record { score = b .score; index = b .index; speed = b .speed; found = true }
+
+-- a bid comes before what was found, by score and index
+abbrev pub leadsScore : Bid → Lead → Bool
+leadsScore a b = not (totalOf (b .score) (a .score)) || (totalOf (a .score) (b .score) && ltb (a .index) (b .index))
+
+-- by medium, score and index
+abbrev pub leadsMedium : Bid → Lead → Bool
+leadsMedium a b = ltb (a .speed) (b .speed) || (eqb (a .speed) (b .speed) && leadsScore a b)
+
+-- the better of what a scan has found and one more
+abbrev pub scoreStep : Lead → Bid → Lead
+scoreStep f b = cond (not (f .found) || leadsScore b f) (leadOf b) f
+
+-- the same by medium, score and index
+abbrev pub mediumStep : Lead → Bid → Lead
+mediumStep f b = cond (not (f .found) || leadsMedium b f) (leadOf b) f
+
+-- the bids that the scans take: those that are on
+abbrev pub isOn : Bid → Bool
+isOn b = b .on
+
+-- the preferred near a limit
+abbrev pub isPreferred : Float → Bid → Bool
+isPreferred limit b = (b .on && le (b .score) limit) && b .preferred
+
+-- those near a limit over a quicker medium than that of a speed, preferred ones only where one was picked
+abbrev pub isQuicker : Float → Bool → ℕ → Bid → Bool
+isQuicker limit only speed b =
+    ((b .on && le (b .score) limit) && (b .preferred || not only)) && (ltb speed 3 && ltb (b .speed) speed)
+
+-- what the scans find: the least score
+unfoldable pub bestLead : List Bid → Lead
+bestLead l = foldl scoreStep noLead (keep isOn l)
+
+-- the least score of the preferred near a limit
+unfoldable pub preferredLead : Float → List Bid → Lead
+preferredLead limit l = foldl scoreStep noLead (keep (isPreferred limit) l)
+
+-- the first over a quicker medium near a limit
+unfoldable pub quickerLead : Float → Bool → ℕ → List Bid → Lead
+quickerLead limit only speed l = foldl mediumStep noLead (keep (isQuicker limit only speed) l)
+
+-- what was found, else the other
+abbrev pub eitherLead : Lead → Lead → Lead
+eitherLead a b = cond (a .found) a b
+
+-- best × margin
+abbrev pub limitOver : Lead → Float → Float
+limitOver best margin = mul binary64 (best .score) margin
+
+-- one over a quicker medium, else the pick
+abbrev pub overLead : List Bid → Float → Bool → Lead → Lead
+overLead l limit only pick = eitherLead (quickerLead limit only (pick .speed) l) pick
+
+-- the pick after the preferred one
+abbrev pub secondLead : List Bid → Float → Lead → Lead → Lead
+secondLead l limit best second = overLead l limit (second .found) (eitherLead second best)
+
+-- the pick where the best has a score
+unfoldable pub afterLead : List Bid → Lead → Float → Lead
+afterLead l best margin = secondLead l (limitOver best margin) best (preferredLead (limitOver best margin) l)

@@ -3,6 +3,7 @@ ghost use mathlib.Core.Path.{_≡_};
 ghost use Rattle.base.specs.Seq.{every};
 ghost use Rattle.select.specs.Rivals.{isLong, atPlace, placed};
 ghost use Rattle.select.specs.Passes.{isNamed, isRanked, asksOf, lacksOf, topOf, gateOf};
+ghost use Rattle.select.specs.Passes.Test.{Long, Pinned, Fits};
 use crate::passes::*;
 use crate::types::*;
 use base::limits::DURATION_END;
@@ -28,25 +29,65 @@ pub fn ranks(g: Gate, r: Rival) -> bool
     (named(g.pinned, r) & (r.tier == g.top)) & (r.fits | !g.fit)
 }
 
-// Whether a rival has what a test asks for.
-fn asks(t: Test, r: Rival) -> bool
-    ensures { λ k. ⌜ k ≡ asksOf t r ⌝ }
+// Whether a rival is held and has a round trip of 2^62 or more.
+fn held_long(r: Rival) -> bool
+    ensures { λ k. ⌜ k ≡ asksOf Long r ⌝ }
 {
-    match t {
-        Test::Long => r.held & long(r),
-        Test::Pinned => r.held & r.pinned,
-        Test::Fits(pinned, top) => (named(pinned, r) & (r.tier == top)) & r.fits,
-    }
+    r.held & long(r)
 }
 
-// Whether no rival has what a test asks for.
-pub fn none(field: [Rival; PATH_MAX_PER_PEER], t: Test) -> bool
-    ensures { λ k. ⌜ k ≡ every (lacksOf t) field ⌝ }
+// Whether a rival is held and pinned.
+fn held_pinned(r: Rival) -> bool
+    ensures { λ k. ⌜ k ≡ asksOf Pinned r ⌝ }
+{
+    r.held & r.pinned
+}
+
+// Whether a rival that the pins leave is of the highest tier and fits.
+fn top_fits(pinned: bool, top: u8, r: Rival) -> bool
+    ensures { λ k. ⌜ k ≡ asksOf (Fits pinned top) r ⌝ }
+{
+    (named(pinned, r) & (r.tier == top)) & r.fits
+}
+
+// Whether no held rival has a round trip of 2^62 or more.
+pub fn none_long(field: [Rival; PATH_MAX_PER_PEER]) -> bool
+    ensures { λ k. ⌜ k ≡ every (lacksOf Long) field ⌝ }
 {
     let mut i: usize = 0;
     while i < PATH_MAX_PER_PEER {
         let r = field[i];
-        if asks(t, r) {
+        if held_long(r) {
+            return false;
+        }
+        i += 1;
+    }
+    true
+}
+
+// Whether no held rival is pinned.
+fn none_pinned(field: [Rival; PATH_MAX_PER_PEER]) -> bool
+    ensures { λ k. ⌜ k ≡ every (lacksOf Pinned) field ⌝ }
+{
+    let mut i: usize = 0;
+    while i < PATH_MAX_PER_PEER {
+        let r = field[i];
+        if held_pinned(r) {
+            return false;
+        }
+        i += 1;
+    }
+    true
+}
+
+// Whether no rival of the highest tier that the pins leave fits.
+fn none_fits(field: [Rival; PATH_MAX_PER_PEER], pinned: bool, top: u8) -> bool
+    ensures { λ k. ⌜ k ≡ every (lacksOf (Fits pinned top)) field ⌝ }
+{
+    let mut i: usize = 0;
+    while i < PATH_MAX_PER_PEER {
+        let r = field[i];
+        if top_fits(pinned, top, r) {
             return false;
         }
         i += 1;
@@ -96,9 +137,9 @@ fn top_tier(field: [Rival; PATH_MAX_PER_PEER], pinned: bool) -> u8
 pub fn gate_of(field: [Rival; PATH_MAX_PER_PEER]) -> Gate
     ensures { λ g. ⌜ g ≡ gateOf field ⌝ }
 {
-    let pinned = !none(field, Test::Pinned);
+    let pinned = !none_pinned(field);
     let top = top_tier(field, pinned);
-    let fit = !none(field, Test::Fits(pinned, top));
+    let fit = !none_fits(field, pinned, top);
     Gate {
         top: top,
         pinned: pinned,

@@ -1,5 +1,5 @@
-// For the code's passes over a field: what one looks for. No contract of a function that another crate calls names it.
-use crate::types::Medium;
+// For the code's passes over a field: who is ranked, and what a scan reads and finds. No contract of a function that
+// another crate calls names it.
 
 // Who is ranked: the pinned, if any; of those the ones of the highest tier; of those the fitting, if any.
 pub struct Gate {
@@ -8,19 +8,19 @@ pub struct Gate {
     pub fit: bool,
 }
 
-// What a test over the field asks of a rival: a duration that is too long; a pin; in the highest tier that the pins
-// leave, that it fits.
-pub enum Test {
-    Long,
-    Pinned,
-    Fits(bool, u8),
+// A rival as the scans among the scored read it: `on` where it is ranked and has a score.
+pub struct Bid {
+    pub score: f64,
+    pub index: usize,
+    pub speed: u8,
+    pub preferred: bool,
+    pub on: bool,
 }
 
-// What a scan looks for among the ranked: the scored; the preferred near a limit; those near a limit over a quicker
-// medium, preferred ones only where one was picked; all, by their round trips.
-pub enum Want {
-    Scored(Gate),
-    Preferred(Gate, f64),
-    Quicker(Gate, f64, bool, Medium),
-    Timed(Gate),
+// What a scan has found of a bid; nothing where `found` is false.
+pub struct Lead {
+    pub score: f64,
+    pub index: usize,
+    pub speed: u8,
+    pub found: bool,
 }

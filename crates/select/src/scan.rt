@@ -1,15 +1,178 @@
-// One scan of the field: the first, in an order, of the rivals that it looks for.
+// The scans of a field: the first, in an order, of the rivals that one looks for.
 ghost use mathlib.Core.Path.{_≡_};
-ghost use Rattle.select.specs.Rivals.{byScore, tripOf, byTrip};
-ghost use Rattle.select.specs.Passes.{takesOf, beforeOf, betterIn, firstTaken};
+ghost use mathlib.Core.List.{map};
+ghost use Rattle.select.specs.Rivals.{tripOf, byTrip};
+ghost use Rattle.select.specs.Passes.{betterOf, firstTaken, bidOf, noBid, noLead, leadOf};
+ghost use Rattle.select.specs.Passes.{leadsScore, leadsMedium, scoreStep, mediumStep, isPreferred, isQuicker};
+ghost use Rattle.select.specs.Passes.{bestLead, preferredLead, quickerLead};
+ghost use Rattle.select.specs.Passes.Want.{Timed};
 use crate::passes::*;
 use crate::types::*;
 
+// A place of the bids before it is filled.
+fn no_bid() -> Bid
+    ensures { λ k. ⌜ k ≡ noBid ⌝ }
+{
+    Bid {
+        score: 0.0,
+        index: 0,
+        speed: 0,
+        preferred: false,
+        on: false,
+    }
+}
+
+// A rival as a bid.
+fn bid_of(g: Gate, r: Rival) -> Bid
+    ensures { λ k. ⌜ k ≡ bidOf g r ⌝ }
+{
+    let m = r.medium;
+    Bid {
+        score: r.score,
+        index: r.index,
+        speed: crate::media::speed(m),
+        preferred: r.preferred,
+        on: crate::gate::ranks(g, r) & r.scored,
+    }
+}
+
+// The rivals of a field as bids, each in its place.
+pub fn bids(field: [Rival; PATH_MAX_PER_PEER], g: Gate) -> [Bid; PATH_MAX_PER_PEER]
+    ensures { λ k. ⌜ k ≡ map (bidOf g) field ⌝ }
+{
+    let none = no_bid();
+    let mut out = [none; PATH_MAX_PER_PEER];
+    let mut i: usize = 0;
+    while i < PATH_MAX_PER_PEER {
+        let r = field[i];
+        let b = bid_of(g, r);
+        out[i] = b;
+        i += 1;
+    }
+    out
+}
+
+// Nothing found.
+fn no_lead() -> Lead
+    ensures { λ k. ⌜ k ≡ noLead ⌝ }
+{
+    Lead {
+        score: 0.0,
+        index: 0,
+        speed: 0,
+        found: false,
+    }
+}
+
+// A bid as found.
+fn lead_of(b: Bid) -> Lead
+    ensures { λ k. ⌜ k ≡ leadOf b ⌝ }
+{
+    Lead {
+        score: b.score,
+        index: b.index,
+        speed: b.speed,
+        found: true,
+    }
+}
+
 // The order by score, then index: strictly before.
-fn by_score(a: Rival, b: Rival) -> bool
-    ensures { λ k. ⌜ k ≡ byScore a b ⌝ }
+fn by_score(a: Bid, b: Lead) -> bool
+    ensures { λ k. ⌜ k ≡ leadsScore a b ⌝ }
 {
     !total::total(b.score, a.score) | (total::total(a.score, b.score) & (a.index < b.index))
+}
+
+// The order by medium, score, index: strictly before.
+fn by_medium(a: Bid, b: Lead) -> bool
+    ensures { λ k. ⌜ k ≡ leadsMedium a b ⌝ }
+{
+    (a.speed < b.speed) | ((a.speed == b.speed) & by_score(a, b))
+}
+
+// The better by score of what a scan has found and a bid that it takes.
+fn better_score(f: Lead, b: Bid) -> Lead
+    ensures { λ k. ⌜ k ≡ scoreStep f b ⌝ }
+{
+    if !f.found | by_score(b, f) {
+        lead_of(b)
+    } else {
+        f
+    }
+}
+
+// The better by medium of what a scan has found and a bid that it takes.
+fn better_medium(f: Lead, b: Bid) -> Lead
+    ensures { λ k. ⌜ k ≡ mediumStep f b ⌝ }
+{
+    if !f.found | by_medium(b, f) {
+        lead_of(b)
+    } else {
+        f
+    }
+}
+
+// Whether a bid is preferred and near a limit.
+fn near_preferred(b: Bid, limit: f64) -> bool
+    ensures { λ k. ⌜ k ≡ isPreferred limit b ⌝ }
+{
+    (b.on & (b.score <= limit)) & b.preferred
+}
+
+// Whether a bid is near a limit over a quicker medium than that of a speed, and preferred where `only` says so.
+fn near_quicker(b: Bid, limit: f64, only: bool, speed: u8) -> bool
+    ensures { λ k. ⌜ k ≡ isQuicker limit only speed b ⌝ }
+{
+    ((b.on & (b.score <= limit)) & (b.preferred | !only)) & ((speed < 3) & (b.speed < speed))
+}
+
+// The least score among the bids, then index.
+pub fn best_lead(bids: [Bid; PATH_MAX_PER_PEER]) -> Lead
+    ensures { λ k. ⌜ k ≡ bestLead bids ⌝ }
+{
+    let mut f = no_lead();
+    let mut i: usize = 0;
+    while i < PATH_MAX_PER_PEER {
+        let b = bids[i];
+        i += 1;
+        if b.on {
+            f = better_score(f, b);
+        }
+    }
+    f
+}
+
+// The least score among the preferred bids near a limit, then index.
+pub fn preferred_lead(bids: [Bid; PATH_MAX_PER_PEER], limit: f64) -> Lead
+    ensures { λ k. ⌜ k ≡ preferredLead limit bids ⌝ }
+{
+    let mut f = no_lead();
+    let mut i: usize = 0;
+    while i < PATH_MAX_PER_PEER {
+        let b = bids[i];
+        i += 1;
+        if near_preferred(b, limit) {
+            f = better_score(f, b);
+        }
+    }
+    f
+}
+
+// The first by medium, score, index among the bids near a limit over a quicker medium, preferred ones only where `only`
+// says so.
+pub fn quicker_lead(bids: [Bid; PATH_MAX_PER_PEER], limit: f64, only: bool, speed: u8) -> Lead
+    ensures { λ k. ⌜ k ≡ quickerLead limit only speed bids ⌝ }
+{
+    let mut f = no_lead();
+    let mut i: usize = 0;
+    while i < PATH_MAX_PER_PEER {
+        let b = bids[i];
+        i += 1;
+        if near_quicker(b, limit, only, speed) {
+            f = better_medium(f, b);
+        }
+    }
+    f
 }
 
 // The round trip, and 0 where there is none.
@@ -28,49 +191,14 @@ fn by_trip(a: Rival, b: Rival) -> bool
     (a.timed & !b.timed) | ((a.timed == b.timed) & ((x < y) | ((x == y) & (a.index < b.index))))
 }
 
-// Whether a scan for `w` takes a rival.
-fn takes(w: Want, r: Rival) -> bool
-    ensures { λ k. ⌜ k ≡ takesOf w r ⌝ }
-{
-    match w {
-        Want::Scored(g) => crate::gate::ranks(g, r) & r.scored,
-        Want::Preferred(g, limit) => ((crate::gate::ranks(g, r) & r.scored) & (r.score <= limit))
-            & r.preferred,
-        Want::Quicker(g, limit, only, medium) => {
-            let m = r.medium;
-            (((crate::gate::ranks(g, r) & r.scored) & (r.score <= limit)) & (r.preferred | !only))
-                & crate::media::quicker(m, medium)
-        }
-        Want::Timed(g) => crate::gate::ranks(g, r),
-    }
-}
-
-// The order of a scan for `w`.
-fn before(w: Want, a: Rival, b: Rival) -> bool
-    ensures { λ k. ⌜ k ≡ beforeOf w a b ⌝ }
-{
-    match w {
-        Want::Scored(_) => by_score(a, b),
-        Want::Preferred(_, _) => by_score(a, b),
-        Want::Quicker(_, _, _, _) => {
-            let m = a.medium;
-            let n = b.medium;
-            let x = crate::media::speed(m);
-            let y = crate::media::speed(n);
-            (x < y) | ((x == y) & by_score(a, b))
-        }
-        Want::Timed(_) => by_trip(a, b),
-    }
-}
-
-// The better of what a scan has found and a rival that it takes.
-fn better(w: Want, f: MaybeRival, r: Rival) -> MaybeRival
-    ensures { λ k. ⌜ k ≡ betterIn w f r ⌝ }
+// The sooner of what a scan has found and a rival that it takes.
+fn sooner(f: MaybeRival, r: Rival) -> MaybeRival
+    ensures { λ k. ⌜ k ≡ betterOf byTrip f r ⌝ }
 {
     match f {
         MaybeRival::None => MaybeRival::Some(r),
         MaybeRival::Some(a) => {
-            if before(w, r, a) {
+            if by_trip(r, a) {
                 return MaybeRival::Some(r);
             }
             MaybeRival::Some(a)
@@ -78,17 +206,17 @@ fn better(w: Want, f: MaybeRival, r: Rival) -> MaybeRival
     }
 }
 
-// The first of the rivals that a scan for `w` takes.
-pub fn least(field: [Rival; PATH_MAX_PER_PEER], w: Want) -> MaybeRival
-    ensures { λ k. ⌜ k ≡ firstTaken w field ⌝ }
+// The first of the ranked by round trip.
+pub fn soonest(field: [Rival; PATH_MAX_PER_PEER], g: Gate) -> MaybeRival
+    ensures { λ k. ⌜ k ≡ firstTaken (Timed g) field ⌝ }
 {
     let mut f = MaybeRival::None;
     let mut i: usize = 0;
     while i < PATH_MAX_PER_PEER {
         let r = field[i];
         i += 1;
-        if takes(w, r) {
-            f = better(w, f, r);
+        if crate::gate::ranks(g, r) {
+            f = sooner(f, r);
         }
     }
     f

@@ -1,4 +1,4 @@
--- `choosing::choice_reply` meets its contract: by whether a rival was picked.
+-- `choosing::choice_reply` meets its contract: by whether a slot was picked.
 -- Assumes nothing.
 use borrow.Author.Needs.{needs}
 use Rattle.choosing.proofs.choice_reply.Statement.{statement}
@@ -7,14 +7,14 @@ use Rattle.choosing.proofs.choice_reply.Tie as tie
 enum-known-m : tie.Need-enum-known-m
 enum-known-m c = search needs
 
-enum-told : tie.Need-enum-told
-enum-told c = search needs
+enum-known-m-2 : tie.Need-enum-known-m-2
+enum-known-m-2 c = search needs
 
 returns : tie.Need-returns
 returns c = simp (c .before .m .given .1)
 
 returns-2 : tie.Need-returns-2
-returns-2 c = simp (c .enum-told .given .1)
+returns-2 c = simp (c .before .m2 .given .1)
 
 pub choice-reply-spec : {M : Type 1} → statement M
-choice-reply-spec = tie.close (tie.spec enum-known-m enum-told returns returns-2)
+choice-reply-spec = tie.close (tie.spec enum-known-m enum-known-m-2 returns returns-2)

@@ -1,6 +1,8 @@
 -- `choosing::chosen` meets its contract: by whether the margin is allowed.
 -- Assumes nothing.
+use mathlib.Core.Path.{sym, _∙_}
 use Rattle.choosing.specs.Choosing.{chosenOf}
+use Rattle.choosing.proofs.ChoiceLaws.{picked-as, chosen-margin}
 use borrow.Author.Needs.{needs}
 use Rattle.choosing.proofs.chosen.Statement.{statement}
 use Rattle.choosing.proofs.chosen.Tie as tie
@@ -21,8 +23,9 @@ choice-reply-requires : tie.Need-choice-reply-requires
 choice-reply-requires c κs = search needs
 
 returns : tie.Need-returns
-unfolding chosenOf
-returns c = simp (← c .before .before .before .before .before .float-of .ensures, ← c .before .before .before .before .is-margin .ensures, c .before .before .before .if1 .taken, ← c .before .before .rivals .ensures, ← c .before .picked .ensures, c .choice-reply .ensures)
+returns c = chosen-margin _ _ (c .before .before .before .before .before .float-of .ensures)
+    (sym (c .before .before .before .before .is-margin .ensures) ∙ c .before .before .before .if1 .taken)
+    (picked-as _ (c .before .before .rivals .ensures) (c .before .picked .ensures)) (c .choice-reply .ensures)
 
 returns-2 : tie.Need-returns-2
 unfolding chosenOf

@@ -3,11 +3,14 @@
 use borrow.Author.Needs.{needs}
 use Rattle.choosing.proofs.ChoiceLaws.{Filling, filling-start, filling-next, filling-end}
 use Prim.Native.Nat.{_-_}
+use mathlib.Core.Path.{_∙_}
+use Rattle.base.proofs.KeepLaws.{map-same}
+use Rattle.select.specs.declared.types.Rival.{Rival}
 use Rattle.choosing.proofs.rivals.Statement.{statement}
 use Rattle.choosing.proofs.rivals.Tie as tie
 
 abbrev Inv-loop : tie.InvT-loop
-Inv-loop slots field₀ i₀ field i = Filling slots field i
+Inv-loop slots field₀ i₀ field i = Filling (λ (r : Rival). r) slots field i
 
 abbrev μ-loop : tie.MeasureT-loop
 μ-loop slots field₀ i₀ field i = 8 - i
@@ -40,10 +43,11 @@ loop-less : tie.Need-loop-less Inv-loop μ-loop
 loop-less c = search needs
 
 loop-again : tie.Need-loop-again Inv-loop μ-loop
-loop-again c = filling-next _ (c .before .before .before .loop .inv) (c .before .before .loop-test .taken) (c .rival-of .ensures)
+loop-again c = filling-next _ (c .before .before .before .loop .inv) (c .before .before .loop-test .taken)
+    (c .rival-of .ensures)
 
 returns : tie.Need-returns Inv-loop μ-loop
-returns c = filling-end (c .before .loop .inv) (c .loop-test .left)
+returns c = filling-end (c .before .loop .inv) (c .loop-test .left) ∙ map-same _
 
 pub rivals-spec : {M : Type 1} → statement M
 rivals-spec =

@@ -10,17 +10,11 @@ etx-requires c κs = search needs
 min-rtt-requires : tie.Need-min-rtt-requires
 min-rtt-requires c κs = search needs
 
-base-rtt-requires : tie.Need-base-rtt-requires
-base-rtt-requires c κs = search needs
-
 trip-requires : tie.Need-trip-requires
 trip-requires c κs = search needs
 
 score-of-requires : tie.Need-score-of-requires
 score-of-requires c κs = search needs
-
-score-of-requires-2 : tie.Need-score-of-requires-2
-score-of-requires-2 c κs = search needs
 
 label-requires : tie.Need-label-requires
 label-requires c κs = search needs
@@ -28,14 +22,8 @@ label-requires c κs = search needs
 score-in-requires : tie.Need-score-in-requires
 score-in-requires c κs = search needs
 
-score-in-requires-2 : tie.Need-score-in-requires-2
-score-in-requires-2 c κs = search needs
-
 time-in-requires : tie.Need-time-in-requires
 time-in-requires c κs = search needs
-
-time-in-requires-2 : tie.Need-time-in-requires-2
-time-in-requires-2 c κs = search needs
 
 tier-requires : tie.Need-tier-requires
 tier-requires c κs = search needs
@@ -46,17 +34,23 @@ used-requires c κs = search needs
 is-scored-requires : tie.Need-is-scored-requires
 is-scored-requires c κs = search needs
 
-is-scored-requires-2 : tie.Need-is-scored-requires-2
-is-scored-requires-2 c κs = search needs
-
 is-timed-requires : tie.Need-is-timed-requires
 is-timed-requires c κs = search needs
 
-is-timed-requires-2 : tie.Need-is-timed-requires-2
-is-timed-requires-2 c κs = search needs
-
 returns : tie.Need-returns
-returns c = simp (c .is-timed2 .ensures, c .before .is-timed .ensures, c .before .before .is-scored2 .ensures, c .before .before .before .is-scored .ensures, c .before .before .before .before .used .ensures, c .before .before .before .before .before .tier .ensures, c .before .before .before .before .before .before .time-in2 .ensures, c .before .before .before .before .before .before .before .time-in .ensures, c .before .before .before .before .before .before .before .before .score-in2 .ensures, c .before .before .before .before .before .before .before .before .before .score-in .ensures, c .before .before .before .before .before .before .before .before .before .before .label .ensures, c .before .before .before .before .before .before .before .before .before .before .before .score-of2 .ensures, c .before .before .before .before .before .before .before .before .before .before .before .before .score-of .ensures, c .before .before .before .before .before .before .before .before .before .before .before .before .before .trip .ensures, c .before .before .before .before .before .before .before .before .before .before .before .before .before .before .base-rtt .ensures, c .before .before .before .before .before .before .before .before .before .before .before .before .before .before .before .min-rtt .ensures, c .before .before .before .before .before .before .before .before .before .before .before .before .before .before .before .before .etx .ensures)
+returns c = simp (
+  c .is-timed .ensures,
+  c .before .is-scored .ensures,
+  c .before .before .used .ensures,
+  c .before .before .before .tier .ensures,
+  c .before .before .before .before .time-in .ensures,
+  c .before .before .before .before .before .score-in .ensures,
+  c .before .before .before .before .before .before .label .ensures,
+  c .before .before .before .before .before .before .before .score-of .ensures,
+  c .before .before .before .before .before .before .before .before .trip .ensures,
+  c .before .before .before .before .before .before .before .before .before .min-rtt .ensures,
+  c .before .before .before .before .before .before .before .before .before .before .etx .ensures,
+)
 
 pub rival-spec : {M : Type 1} → statement M
 rival-spec =
@@ -64,19 +58,13 @@ rival-spec =
     (tie.spec
     etx-requires
     min-rtt-requires
-    base-rtt-requires
     trip-requires
     score-of-requires
-    score-of-requires-2
     label-requires
     score-in-requires
-    score-in-requires-2
     time-in-requires
-    time-in-requires-2
     tier-requires
     used-requires
     is-scored-requires
-    is-scored-requires-2
     is-timed-requires
-    is-timed-requires-2
     returns)

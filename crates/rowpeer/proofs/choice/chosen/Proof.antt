@@ -2,6 +2,8 @@
 -- Assumes nothing.
 use mathlib.Core.Path.{sym, _∙_}
 use Rattle.choosing.specs.Choosing.{chosenOf}
+use Rattle.select.proofs.SlimLaws.{slot-picked}
+use Rattle.choosing.proofs.ChoiceLaws.{picked-as, chosen-margin}
 use borrow.Author.Needs.{needs}
 use Rattle.rowpeer.proofs.choice.chosen.Statement.{statement}
 use Rattle.rowpeer.proofs.choice.chosen.Tie as tie
@@ -22,8 +24,10 @@ choice-reply-requires : tie.Need-choice-reply-requires
 choice-reply-requires c κs = search needs
 
 returns : tie.Need-returns
-unfolding chosenOf
-returns c = simp (c .choice-reply .ensures, c .before .picked .ensures, c .before .before .rivals .ensures, ← c .before .before .before .before .before .float-of .ensures, sym (c .before .before .before .before .is-margin .ensures) ∙ c .before .before .before .if1 .taken)
+returns c = chosen-margin _ _ (c .before .before .before .before .before .float-of .ensures)
+    (sym (c .before .before .before .before .is-margin .ensures) ∙ c .before .before .before .if1 .taken)
+    (picked-as _ (c .before .before .rivals .ensures) (c .before .picked .ensures) ∙ slot-picked _ _)
+    (c .choice-reply .ensures)
 
 returns-2 : tie.Need-returns-2
 unfolding chosenOf

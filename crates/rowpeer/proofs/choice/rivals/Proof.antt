@@ -6,13 +6,15 @@ use Prim.Native.Nat.{_-_}
 use mathlib.Core.Path.{sym, ap, _∙_}
 use lib.ListN.{length-map, List·getD-map}
 use Rattle.choosing.proofs.ChoiceLaws.{Filling, filling-start, filling-next, filling-end}
+use Rattle.select.specs.Slim.{slimOf}
 use Rattle.rules.specs.Step.{rivalOf}
+use Rattle.rules.specs.declared.types.Slot.{Slot}
 use Rattle.rows.specs.View.{slotIn}
 use Rattle.rowpeer.proofs.choice.rivals.Statement.{statement}
 use Rattle.rowpeer.proofs.choice.rivals.Tie as tie
 
 abbrev Inv-loop : tie.InvT-loop
-Inv-loop rec field₀ i₀ field i = Filling (map slotIn rec) field i
+Inv-loop rec field₀ i₀ field i = Filling slimOf (map slotIn rec) field i
 
 abbrev μ-loop : tie.MeasureT-loop
 μ-loop rec field₀ i₀ field i = 8 - i
@@ -24,7 +26,8 @@ none-requires : tie.Need-none-requires Inv-loop μ-loop
 none-requires c κs = search needs
 
 loop-holds : tie.Need-loop-holds Inv-loop μ-loop
-loop-holds c = filling-start (length-map (c .before .before .args .rec .now) slotIn ∙ c .before .slots .ensures .1) (search needs)
+loop-holds c = filling-start (length-map (c .before .before .args .rec .now) slotIn ∙ c .before .slots .ensures .1)
+    (search needs)
 
 mul-rival : tie.Need-mul-rival Inv-loop μ-loop
 mul-rival c = search needs
@@ -48,7 +51,10 @@ loop-less : tie.Need-loop-less Inv-loop μ-loop
 loop-less c = search needs
 
 loop-again : tie.Need-loop-again Inv-loop μ-loop
-loop-again c = filling-next (slotIn []) (c .before .before .before .loop .inv) (c .before .before .loop-test .taken) (c .rival .ensures ∙ ap (rivalOf (c .before .before .before .loop .i)) (sym (List·getD-map slotIn (c .before .before .before .before .before .before .args .rec .now) (c .before .before .before .loop .i) [])))
+loop-again c = filling-next (slotIn []) (c .before .before .before .loop .inv) (c .before .before .loop-test .taken)
+    (c .rival .ensures
+    ∙ ap (λ (s : Slot). slimOf (rivalOf (c .before .before .before .loop .i) s))
+    (sym (List·getD-map slotIn (c .before .before .before .before .before .before .args .rec .now) (c .before .before .before .loop .i) [])))
 
 returns : tie.Need-returns Inv-loop μ-loop
 returns c = filling-end (c .before .loop .inv) (c .loop-test .left)

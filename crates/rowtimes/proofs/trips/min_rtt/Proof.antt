@@ -1,69 +1,43 @@
--- `rowtimes::trips::min_rtt` meets its contract.
+-- `rowtimes::trips::min_rtt` meets its contract: the first sample, and those after it.
 -- Assumes nothing.
-use borrow.Author.Needs.{needs}
-use Prim.Native.Nat.{_-_}
-use Rattle.rows.specs.View.{pathIn}
 use Rattle.rows.proofs.ViewLaws.{samples-length}
-use Rattle.base.proofs.ScanLaws.{Folding, folding-start}
-use Rattle.base.proofs.LeastLaws.{folding-least}
-use Rattle.base.specs.declared.types.MaybeTime.the-variants.{None}
-use Rattle.base.specs.Passes.{lowerOf}
-use Rattle.rtt.specs.Samples.{isSample, minRtt}
-use Rattle.rtt.specs.declared.types.Sample.{Sample}
-use Rattle.rowtimes.proofs.StoreLaws.{least-take, least-skip}
+use Rattle.rowtimes.proofs.TripLaws.{min-some, min-none}
+use borrow.Author.Needs.{needs}
 use Rattle.rowtimes.proofs.trips.min_rtt.Statement.{statement}
 use Rattle.rowtimes.proofs.trips.min_rtt.Tie as tie
 
-abbrev Inv-loop : tie.InvT-loop
-Inv-loop p least₀ i₀ least i = Folding isSample (λ (s : Sample). s .rtt) lowerOf None (pathIn p .rtts .samples) 32 least i
-
-abbrev μ-loop : tie.MeasureT-loop
-μ-loop p least₀ i₀ least i = 32 - i
-
-rows-requires : tie.Need-rows-requires Inv-loop μ-loop
+rows-requires : tie.Need-rows-requires
 rows-requires c κs = search needs
 
-loop-holds : tie.Need-loop-holds Inv-loop μ-loop
-loop-holds c = folding-start (samples-length _ (c .rows .ensures .1))
+first-used-requires : tie.Need-first-used-requires
+first-used-requires c κs = search needs
 
-sample-requires : tie.Need-sample-requires Inv-loop μ-loop
+returns : tie.Need-returns
+returns c = min-none _ (c .before .first-used .ensures) (samples-length _ (c .before .before .rows .ensures .1))
+    (c .if1 .taken)
+
+sample-requires : tie.Need-sample-requires
 sample-requires c κs = search needs
 
-add-i : tie.Need-add-i Inv-loop μ-loop
-add-i c = search needs
+add-least-from : tie.Need-add-least-from
+add-least-from c = search needs
 
-lower-requires : tie.Need-lower-requires Inv-loop μ-loop
-lower-requires c κs = search needs
+least-from-requires : tie.Need-least-from-requires
+least-from-requires c κs = search needs
 
-loop-less : tie.Need-loop-less Inv-loop μ-loop
-loop-less c = search needs
-
-loop-again : tie.Need-loop-again Inv-loop μ-loop
-loop-again c = least-take _ (c .before .before .before .before .loop .inv) (search needs) (c .before .before .sample .ensures) (c .before .if1 .taken) (c .lower .ensures)
-
-loop-less-2 : tie.Need-loop-less-2 Inv-loop μ-loop
-loop-less-2 c = search needs
-
-loop-again-2 : tie.Need-loop-again-2 Inv-loop μ-loop
-loop-again-2 c = least-skip _ (c .before .before .before .loop .inv) (search needs) (c .before .sample .ensures) (c .if1 .left)
-
-returns : tie.Need-returns Inv-loop μ-loop
-unfolding minRtt
-returns c = folding-least (c .before .loop .inv) (search needs)
+returns-2 : tie.Need-returns-2
+returns-2 c = min-some _ (c .before .before .before .first-used .ensures)
+    (samples-length _ (c .before .before .before .before .rows .ensures .1)) (c .before .before .if1 .left)
+    (c .before .sample .ensures) (c .least-from .ensures)
 
 pub min-rtt-spec : {M : Type 1} → statement M
 min-rtt-spec =
     tie.close
     (tie.spec
-    Inv-loop
-    μ-loop
     rows-requires
-    loop-holds
+    first-used-requires
+    returns
     sample-requires
-    add-i
-    lower-requires
-    loop-less
-    loop-again
-    loop-less-2
-    loop-again-2
-    returns)
+    add-least-from
+    least-from-requires
+    returns-2)

@@ -7,62 +7,32 @@ use borrow.Author.Needs.{needs}
 use Rattle.select.proofs.choice.choose.Statement.{statement}
 use Rattle.select.proofs.choice.choose.Tie as tie
 
-none-requires : tie.Need-none-requires
-none-requires c κs = search needs
+none-long-requires : tie.Need-none-long-requires
+none-long-requires c κs = search needs
 
 returns : tie.Need-returns
 returns c = choose-long (c .before .before .args .field) (c .before .before .args .margin)
-    (sym (c .before .none .ensures) ∙ not-true _ (c .if1 .taken))
+    (sym (c .before .none-long .ensures) ∙ not-true _ (c .if1 .taken))
 
 in-place-requires : tie.Need-in-place-requires
 in-place-requires c κs = search needs
 
 returns-2 : tie.Need-returns-2
 returns-2 c = choose-index (c .before .before .before .before .args .field)
-    (c .before .before .before .before .args .margin) (sym (c .before .before .before .none .ensures) ∙ not-false _
-    (c .before .before .if1 .left)) (sym (c .before .in-place .ensures) ∙ not-true _ (c .if2 .taken))
+    (c .before .before .before .before .args .margin) (sym (c .before .before .before .none-long .ensures)
+    ∙ not-false _ (c .before .before .if1 .left))
+    (sym (c .before .in-place .ensures) ∙ not-true _ (c .if2 .taken))
 
 picked-requires : tie.Need-picked-requires
 picked-requires c κs = search needs
 
-enum-known-r : tie.Need-enum-known-r
-enum-known-r c = search needs
-
-enum-told : tie.Need-enum-told
-enum-told c = search needs
-
-slot-requires : tie.Need-slot-requires
-slot-requires c κs = search needs
-
 returns-3 : tie.Need-returns-3
-returns-3 c =
-    rw (c .slot .ensures)
-    (choose-slot (c .before .before .before .before .before .before .before .before .before .args .field)
-    (c .before .before .before .before .before .before .before .before .before .args .margin)
-    (sym (c .before .before .before .before .before .before .before .before .none .ensures) ∙ not-false _
-    (c .before .before .before .before .before .before .before .if1 .left))
-    (sym (c .before .before .before .before .before .before .in-place .ensures) ∙ not-false _
-    (c .before .before .before .before .before .if2 .left)) (c .before .before .before .before .picked .ensures)
-    (c .before .before .r .given .1))
-
-returns-4 : tie.Need-returns-4
-returns-4 c = choose-slot (c .before .before .before .before .before .before .before .args .field)
-    (c .before .before .before .before .before .before .before .args .margin)
-    (sym (c .before .before .before .before .before .before .none .ensures) ∙ not-false _
-    (c .before .before .before .before .before .if1 .left)) (sym (c .before .before .before .before .in-place .ensures)
-    ∙ not-false _ (c .before .before .before .if2 .left)) (c .before .before .picked .ensures) (c .enum-told .given .1)
+returns-3 c = choose-slot (c .before .before .before .before .before .args .field)
+    (c .before .before .before .before .before .args .margin)
+    (sym (c .before .before .before .before .none-long .ensures) ∙ not-false _ (c .before .before .before .if1 .left))
+    (sym (c .before .before .in-place .ensures) ∙ not-false _ (c .before .if2 .left)) (c .picked .ensures)
 
 pub choose-spec : {M : Type 1} → statement M
 choose-spec =
     tie.close
-    (tie.spec
-    none-requires
-    returns
-    in-place-requires
-    returns-2
-    picked-requires
-    enum-known-r
-    slot-requires
-    enum-told
-    returns-3
-    returns-4)
+    (tie.spec none-long-requires returns in-place-requires returns-2 picked-requires returns-3)

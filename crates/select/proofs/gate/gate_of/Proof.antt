@@ -5,18 +5,19 @@ use borrow.Author.Needs.{needs}
 use Rattle.select.proofs.gate.gate_of.Statement.{statement}
 use Rattle.select.proofs.gate.gate_of.Tie as tie
 
-none-requires : tie.Need-none-requires
-none-requires c κs = search needs
+none-pinned-requires : tie.Need-none-pinned-requires
+none-pinned-requires c κs = search needs
 
 top-tier-requires : tie.Need-top-tier-requires
 top-tier-requires c κs = search needs
 
-none-requires-2 : tie.Need-none-requires-2
-none-requires-2 c κs = search needs
+none-fits-requires : tie.Need-none-fits-requires
+none-fits-requires c κs = search needs
 
 returns : tie.Need-returns
 unfolding gateOf
-returns c = simp (c .none2 .ensures, c .before .top-tier .ensures, c .before .before .none .ensures)
+returns c = simp (c .none-fits .ensures, c .before .top-tier .ensures, c .before .before .none-pinned .ensures)
 
 pub gate-of-spec : {M : Type 1} → statement M
-gate-of-spec = tie.close (tie.spec none-requires top-tier-requires none-requires-2 returns)
+gate-of-spec =
+    tie.close (tie.spec none-pinned-requires top-tier-requires none-fits-requires returns)

@@ -1,19 +1,20 @@
--- `select::gate::none` meets its contract: one pass asks each rival. The measure is the places left.
+-- `select::gate::none_fits` meets its contract: one pass asks each rival. The measure is the places left.
 -- Assumes nothing.
 use Prim.Native.Nat.{_-_}
 use mathlib.Core.Path.{ap, sym, _∙_}
 use mathlib.Core.Bool.{not}
 use Rattle.base.proofs.SeqLaws.{Passed, passed-start, passed-not, passed-next, passed-end}
 use Rattle.select.specs.Passes.{lacksOf}
+use Rattle.select.specs.Passes.Test.{Fits}
 use borrow.Author.Needs.{needs}
-use Rattle.select.proofs.gate.none.Statement.{statement}
-use Rattle.select.proofs.gate.none.Tie as tie
+use Rattle.select.proofs.gate.none_fits.Statement.{statement}
+use Rattle.select.proofs.gate.none_fits.Tie as tie
 
 abbrev Inv-loop : tie.InvT-loop
-Inv-loop t field i₀ i = Passed (lacksOf t) field 8 i
+Inv-loop pinned top field i₀ i = Passed (lacksOf (Fits pinned top)) field 8 i
 
 abbrev μ-loop : tie.MeasureT-loop
-μ-loop t field i₀ i = 8 - i
+μ-loop pinned top field i₀ i = 8 - i
 
 loop-holds : tie.Need-loop-holds Inv-loop μ-loop
 loop-holds c = passed-start (search needs)
@@ -24,12 +25,12 @@ mul-r c = search needs
 array-copy-out-r : tie.Need-array-copy-out-r Inv-loop μ-loop
 array-copy-out-r c = search needs
 
-asks-requires : tie.Need-asks-requires Inv-loop μ-loop
-asks-requires c κs = search needs
+top-fits-requires : tie.Need-top-fits-requires Inv-loop μ-loop
+top-fits-requires c κs = search needs
 
 returns : tie.Need-returns Inv-loop μ-loop
 returns c = passed-not _ (c .before .before .before .before .loop .inv) (search needs)
-    (ap not (sym (c .before .asks .ensures) ∙ c .if1 .taken))
+    (ap not (sym (c .before .top-fits .ensures) ∙ c .if1 .taken))
 
 add-i : tie.Need-add-i Inv-loop μ-loop
 add-i c = search needs
@@ -39,13 +40,13 @@ loop-less c = search needs
 
 loop-again : tie.Need-loop-again Inv-loop μ-loop
 loop-again c = passed-next _ (c .before .before .before .before .loop .inv) (search needs)
-    (ap not (sym (c .before .asks .ensures) ∙ c .if1 .left))
+    (ap not (sym (c .before .top-fits .ensures) ∙ c .if1 .left))
 
 returns-2 : tie.Need-returns-2 Inv-loop μ-loop
 returns-2 c = passed-end (c .before .loop .inv) (search needs)
 
-pub none-spec : {M : Type 1} → statement M
-none-spec =
+pub none-fits-spec : {M : Type 1} → statement M
+none-fits-spec =
     tie.close
     (tie.spec
     Inv-loop
@@ -53,7 +54,7 @@ none-spec =
     loop-holds
     mul-r
     array-copy-out-r
-    asks-requires
+    top-fits-requires
     returns
     add-i
     loop-less

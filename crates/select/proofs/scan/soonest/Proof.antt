@@ -1,22 +1,23 @@
--- `select::scan::least` meets its contract: the loop folds what it takes, which finds the first of it. The measure is
--- the places left.
+-- `select::scan::soonest` meets its contract: the loop folds the ranked, which finds the first of them. The measure is the places left.
 -- Assumes nothing.
 use Prim.Native.Nat.{_-_}
 use mathlib.Core.Path.{sym, _∙_}
 use Rattle.base.proofs.ScanLaws.{Folding, folding-start, folding-take, folding-skip, folding-end}
-use Rattle.select.specs.Passes.{takesOf, betterIn}
+use Rattle.select.specs.Rivals.{byTrip}
+use Rattle.select.specs.Passes.{isRanked, betterOf}
+use Rattle.select.specs.Passes.Want.{Timed}
 use Rattle.select.specs.declared.types.Rival.{Rival}
 use Rattle.select.specs.declared.types.MaybeRival.the-variants.{None}
 use Rattle.select.proofs.ScanLaws.{scan-pass}
 use borrow.Author.Needs.{needs}
-use Rattle.select.proofs.scan.least.Statement.{statement}
-use Rattle.select.proofs.scan.least.Tie as tie
+use Rattle.select.proofs.scan.soonest.Statement.{statement}
+use Rattle.select.proofs.scan.soonest.Tie as tie
 
 abbrev Inv-loop : tie.InvT-loop
-Inv-loop w field f₀ i₀ f i = Folding (takesOf w) (λ (r : Rival). r) (betterIn w) None field 8 f i
+Inv-loop g field f₀ i₀ f i = Folding (isRanked g) (λ (r : Rival). r) (betterOf byTrip) None field 8 f i
 
 abbrev μ-loop : tie.MeasureT-loop
-μ-loop w field f₀ i₀ f i = 8 - i
+μ-loop g field f₀ i₀ f i = 8 - i
 
 loop-holds : tie.Need-loop-holds Inv-loop μ-loop
 loop-holds c = folding-start (search needs)
@@ -30,33 +31,31 @@ array-copy-out-r c = search needs
 add-i : tie.Need-add-i Inv-loop μ-loop
 add-i c = search needs
 
-takes-requires : tie.Need-takes-requires Inv-loop μ-loop
-takes-requires c κs = search needs
+ranks-requires : tie.Need-ranks-requires Inv-loop μ-loop
+ranks-requires c κs = search needs
 
-better-requires : tie.Need-better-requires Inv-loop μ-loop
-better-requires c κs = search needs
+sooner-requires : tie.Need-sooner-requires Inv-loop μ-loop
+sooner-requires c κs = search needs
 
 loop-less : tie.Need-loop-less Inv-loop μ-loop
 loop-less c = search needs
 
 loop-again : tie.Need-loop-again Inv-loop μ-loop
 loop-again c = folding-take _ (c .before .before .before .before .before .loop .inv) (search needs)
-    (sym (c .before .before .takes .ensures) ∙ c .before .if1 .taken) (c .better .ensures)
+    (sym (c .before .before .ranks .ensures) ∙ c .before .if1 .taken) (c .sooner .ensures)
 
 loop-less-2 : tie.Need-loop-less-2 Inv-loop μ-loop
 loop-less-2 c = search needs
 
 loop-again-2 : tie.Need-loop-again-2 Inv-loop μ-loop
 loop-again-2 c = folding-skip _ (c .before .before .before .before .loop .inv) (search needs)
-    (sym (c .before .takes .ensures) ∙ c .if1 .left)
+    (sym (c .before .ranks .ensures) ∙ c .if1 .left)
 
 returns : tie.Need-returns Inv-loop μ-loop
-returns c =
-    scan-pass (c .before .before .args .w) (c .before .before .args .t1)
-    (folding-end (c .before .loop .inv) (search needs))
+returns c = scan-pass (Timed (c .before .before .args .g)) (c .before .before .args .t1) (folding-end (c .before .loop .inv) (search needs))
 
-pub least-spec : {M : Type 1} → statement M
-least-spec =
+pub soonest-spec : {M : Type 1} → statement M
+soonest-spec =
     tie.close
     (tie.spec
     Inv-loop
@@ -65,8 +64,8 @@ least-spec =
     mul-r
     array-copy-out-r
     add-i
-    takes-requires
-    better-requires
+    ranks-requires
+    sooner-requires
     loop-less
     loop-again
     loop-less-2
