@@ -15,6 +15,7 @@ use Rattle.ring.specs.declared.types.Ids.{Ids}
 use Rattle.ring.specs.declared.types.Sent.{Sent}
 use Rattle.live.specs.Path.{withRing}
 use Rattle.live.specs.declared.types.Liveness.{Liveness}
+use Rattle.rows.specs.Parts.{moved}
 use Rattle.rows.specs.View.{pathIn}
 use Rattle.rows.specs.Says.{Says}
 use Rattle.rows.proofs.CloseLaws.{Closing, closing-start, closing-skip, closing-move, closing-end}
@@ -54,11 +55,11 @@ module _ {a b : List (List ℕ)} {w r : ℕ} (s : Shut a b w r) where
     shut-skip f = record { says = s .says; ring = closing-skip noSent (s .ring) h (ap isUsed (sym e) ∙ f); back = s .back }
 
     -- a waiting probe moves to the front
-    pub shut-move : {c : List (List ℕ)} → x .used ≡ true → Says b c (withRing (pathIn b) (set (pathIn b .ring) w x))
+    pub shut-move : {c : List (List ℕ)} → x .used ≡ true → Says b c (withRing (pathIn b) (moved (pathIn b .ring) r w))
         → Shut a c (w + 1) (r + 1)
     shut-move {c} f g =
         let l = pathIn b .ring in
-        let q : pathIn c .ring ≡ set l w (getD l r noSent) = ring-is g ∙ ap (λ (y : Sent). set l w y) e in
+        let q : pathIn c .ring ≡ set l w (getD l r noSent) = ring-is g in
         let z : drop (w + 1) l ≡ drop (w + 1) (pathIn a .ring) =
         sym (drop-drop 1 w l) ∙ ap (λ (y : List Sent). drop 1 y) (s .back) ∙ drop-drop 1 w (pathIn a .ring) in
         record {

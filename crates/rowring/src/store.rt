@@ -20,10 +20,11 @@ fn press(p: &mut [[u64; 4]; ROWS]) -> usize
     let mut w: usize = 0;
     let mut r: usize = 0;
     while r < RING {
-        let s = sent(p, r);
+        let i = r;
+        let s = sent(p, i);
         r += 1;
         if s.used {
-            set_sent(p, w, s);
+            move_sent(p, i, w);
             w += 1;
         }
     }
@@ -64,12 +65,9 @@ pub fn remember(p: &mut [[u64; 4]; ROWS], s: Sent)
         (withLate (pathIn (now (p .entry))) (remembered (pathIn (now (p .entry)) .late) s)) ⌝ }
 {
     rows(p);
-    let b = late(p, 1);
-    let c = late(p, 2);
-    let d = late(p, 3);
-    set_late(p, 0, b);
-    set_late(p, 1, c);
-    set_late(p, 2, d);
+    move_late(p, 1, 0);
+    move_late(p, 2, 1);
+    move_late(p, 3, 2);
     set_late(p, 3, s);
 }
 

@@ -8,10 +8,11 @@ use native.Mathlib.Omega.{arith}
 use borrow.Author.Tests.{ne-eqb}
 use lib.Dec.{eqb}
 use lib.Ieee.{Float}
-use lib.ListN.{length, set}
-use lib.Seq.{set-out}
+use lib.ListN.{length, set, getD}
+use lib.Seq.{set-out, set-getD}
 use Rattle.base.proofs.Cases.{never}
 use Rattle.base.specs.declared.types.MaybeTime.{MaybeTime}
+use Rattle.ring.specs.Ring.{noSent}
 use Rattle.ring.specs.declared.types.Sent.{Sent}
 use Rattle.ring.specs.declared.types.Ids.{Ids}
 use Rattle.rtt.specs.declared.types.Sample.{Sample}
@@ -29,11 +30,11 @@ use Rattle.cells.specs.Cells.{sentIn, idsIn, firstTime, sizesIn, ladderIn, traf
 use Rattle.cells.specs.Cells.{labelIn, usedIn, stopIn}
 use Rattle.cells.specs.Code.{sentRow, idsRow, timeRow, seekRow, provenRow, ladderRow, arrivalsRow, countersRow}
 use Rattle.cells.specs.Code.{stopRow, untilRow, missesRow, etxRow, sampleRow, spanRow}
-use Rattle.rows.specs.Parts.{withQuiet, withStop, withSamples, withSpans, withTrip}
+use Rattle.rows.specs.Parts.{moved, withQuiet, withStop, withSamples, withSpans, withTrip}
 use Rattle.rows.specs.View.{row, pathIn, slotIn}
-use Rattle.rows.specs.Encode.{slotRows}
+use Rattle.rows.specs.Encode.{slotRows, IsCoded}
 use Rattle.rows.specs.Says.{Says, Turns, isRefused}
-use Rattle.rows.proofs.BlockLaws.{row-other}
+use Rattle.rows.proofs.BlockLaws.{row-other, row-same}
 use Rattle.rows.proofs.CodeLaws as code
 use Rattle.rows.proofs.CodeLaws.{Long, onPath}
 use Rattle.rows.proofs.ViewLaws as view
@@ -100,70 +101,74 @@ made p r q e f g =
       coded = λ c. (λ k. slotRows (record { path = e k; label = labelIn (f k); used = usedIn (f k) })) ∙ g c;
     }
 
--- one row stored
-one : (p : List (List ℕ)) (k : ℕ) (r : List ℕ) (q : Liveness) → eqb 64 k ≡ false → pathIn (set p k r) ≡ q
-    → set (slotRows (slotIn p)) k r ≡ slotRows (onPath (slotIn p) q) → Says p (set p k r) q
-one p k r q h e f =
-    made p (set p k r) q e (row-other p k r 64 h) (λ c. sym f ∙ ap (λ (z : List (List ℕ)). set z k r) c)
+-- one row stored, which is r′ where the rows were the encoder's
+one : (p : List (List ℕ)) (k : ℕ) (r r′ : List ℕ) (q : Liveness) → eqb 64 k ≡ false → pathIn (set p k r) ≡ q
+    → set (slotRows (slotIn p)) k r′ ≡ slotRows (onPath (slotIn p) q) → (IsCoded p → r ≡ r′) → Says p (set p k r) q
+one p k r r′ q h e f g =
+    made p (set p k r) q e (row-other p k r 64 h) (λ c. sym f ∙ (λ j. set (c j) k (sym (g c) j)))
+
+-- a row that was made whole is the encoder's whatever the rows were
+pub whole : {p : List (List ℕ)} {r r′ : List ℕ} {A : Type 0} → (r ≡ r′) × A → (IsCoded p → r ≡ r′) × A
+whole e = (λ c. e .0, e .1)
 
 module _ (p : List (List ℕ)) (n : length p ≡ 65) (r : List ℕ) where
-  pub says-ids : {m : Ids} → (r ≡ idsRow m) × (idsIn r ≡ m) → Says p (set p 12 r) (withIds (pathIn p) m)
+  pub says-ids : {m : Ids} → (IsCoded p → r ≡ idsRow m) × (idsIn r ≡ m) → Says p (set p 12 r) (withIds (pathIn p) m)
   says-ids {m} e =
-      one p 12 r (withIds (pathIn p) m) refl (view.view-ids p r n (e .1))
-      (ap (λ (z : List ℕ). set (slotRows (slotIn p)) 12 z) (e .0) ∙ code.code-ids (slotIn p) (long-rows p n) m)
+      one p 12 r _ (withIds (pathIn p) m) refl (view.view-ids p r n (e .1))
+      (code.code-ids (slotIn p) (long-rows p n) m) (e .0)
 
-  pub says-quiet : {m : MaybeTime} → (r ≡ timeRow m) × (firstTime r ≡ m) → Says p (set p 13 r) (withQuiet (pathIn p) m)
+  pub says-quiet : {m : MaybeTime} → (IsCoded p → r ≡ timeRow m) × (firstTime r ≡ m) → Says p (set p 13 r) (withQuiet (pathIn p) m)
   says-quiet {m} e =
-      one p 13 r (withQuiet (pathIn p) m) refl (view.view-quiet p r n (e .1))
-      (ap (λ (z : List ℕ). set (slotRows (slotIn p)) 13 z) (e .0) ∙ code.code-quiet (slotIn p) (long-rows p n) m)
+      one p 13 r _ (withQuiet (pathIn p) m) refl (view.view-quiet p r n (e .1))
+      (code.code-quiet (slotIn p) (long-rows p n) m) (e .0)
 
-  pub says-ladder : {m : Ladder} → (r ≡ ladderRow m) × (ladderIn r ≡ m) → Says p (set p 18 r) (withLadder (pathIn p) m)
+  pub says-ladder : {m : Ladder} → (IsCoded p → r ≡ ladderRow m) × (ladderIn r ≡ m) → Says p (set p 18 r) (withLadder (pathIn p) m)
   says-ladder {m} e =
-      one p 18 r (withLadder (pathIn p) m) refl (view.view-ladder p r n (e .1))
-      (ap (λ (z : List ℕ). set (slotRows (slotIn p)) 18 z) (e .0) ∙ code.code-ladder (slotIn p) (long-rows p n) m)
+      one p 18 r _ (withLadder (pathIn p) m) refl (view.view-ladder p r n (e .1))
+      (code.code-ladder (slotIn p) (long-rows p n) m) (e .0)
 
-  pub says-misses : {m : ℕ} → (r ≡ missesRow m) × (missesIn r ≡ m) → Says p (set p 21 r) (withMisses (pathIn p) m)
+  pub says-misses : {m : ℕ} → (IsCoded p → r ≡ missesRow m) × (missesIn r ≡ m) → Says p (set p 21 r) (withMisses (pathIn p) m)
   says-misses {m} e =
-      one p 21 r (withMisses (pathIn p) m) refl (view.view-misses p r n (e .1))
-      (ap (λ (z : List ℕ). set (slotRows (slotIn p)) 21 z) (e .0) ∙ code.code-misses (slotIn p) (long-rows p n) m)
+      one p 21 r _ (withMisses (pathIn p) m) refl (view.view-misses p r n (e .1))
+      (code.code-misses (slotIn p) (long-rows p n) m) (e .0)
 
-  pub says-etx : {m : Float} → (r ≡ etxRow m) × (etxIn r ≡ m) → Says p (set p 22 r) (withEtx (pathIn p) m)
+  pub says-etx : {m : Float} → (IsCoded p → r ≡ etxRow m) × (etxIn r ≡ m) → Says p (set p 22 r) (withEtx (pathIn p) m)
   says-etx {m} e =
-      one p 22 r (withEtx (pathIn p) m) refl (view.view-etx p r n (e .1))
-      (ap (λ (z : List ℕ). set (slotRows (slotIn p)) 22 z) (e .0) ∙ code.code-etx (slotIn p) (long-rows p n) m)
+      one p 22 r _ (withEtx (pathIn p) m) refl (view.view-etx p r n (e .1))
+      (code.code-etx (slotIn p) (long-rows p n) m) (e .0)
 
-  pub says-trip : {m : MaybeTime} → (r ≡ timeRow m) × (firstTime r ≡ m) → Says p (set p 23 r) (withTrip (pathIn p) m)
+  pub says-trip : {m : MaybeTime} → (IsCoded p → r ≡ timeRow m) × (firstTime r ≡ m) → Says p (set p 23 r) (withTrip (pathIn p) m)
   says-trip {m} e =
-      one p 23 r (withTrip (pathIn p) m) refl (view.view-trip p r n (e .1))
-      (ap (λ (z : List ℕ). set (slotRows (slotIn p)) 23 z) (e .0) ∙ code.code-trip (slotIn p) (long-rows p n) m)
+      one p 23 r _ (withTrip (pathIn p) m) refl (view.view-trip p r n (e .1))
+      (code.code-trip (slotIn p) (long-rows p n) m) (e .0)
 
-  pub says-ring : {i : ℕ} {s : Sent} → i < 8 → (r ≡ sentRow s) × (sentIn r ≡ s)
+  pub says-ring : {i : ℕ} {s : Sent} → i < 8 → (IsCoded p → r ≡ sentRow s) × (sentIn r ≡ s)
       → Says p (set p i r) (withRing (pathIn p) (set (pathIn p .ring) i s))
   says-ring {i} {s} h e =
-      one p i r (withRing (pathIn p) (set (pathIn p .ring) i s)) (ne-eqb 64 i (λ q. absurd (omega arith)))
+      one p i r _ (withRing (pathIn p) (set (pathIn p .ring) i s)) (ne-eqb 64 i (λ q. absurd (omega arith)))
       (view.view-ring p r h (e .1))
-      (ap (λ (z : List ℕ). set (slotRows (slotIn p)) i z) (e .0) ∙ code.code-ring (slotIn p) (long-rows p n) i s h)
+      (code.code-ring (slotIn p) (long-rows p n) i s h) (e .0)
 
-  pub says-late : {i : ℕ} {s : Sent} → i < 4 → (r ≡ sentRow s) × (sentIn r ≡ s)
+  pub says-late : {i : ℕ} {s : Sent} → i < 4 → (IsCoded p → r ≡ sentRow s) × (sentIn r ≡ s)
       → Says p (set p (8 + i) r) (withLate (pathIn p) (set (pathIn p .late) i s))
   says-late {i} {s} h e =
-      one p (8 + i) r (withLate (pathIn p) (set (pathIn p .late) i s)) (ne-eqb 64 (8 + i) (λ q. absurd (omega arith)))
+      one p (8 + i) r _ (withLate (pathIn p) (set (pathIn p .late) i s)) (ne-eqb 64 (8 + i) (λ q. absurd (omega arith)))
       (view.view-late p r h (e .1))
-      (ap (λ (z : List ℕ). set (slotRows (slotIn p)) (8 + i) z) (e .0) ∙ code.code-late (slotIn p) (long-rows p n) i s h)
+      (code.code-late (slotIn p) (long-rows p n) i s h) (e .0)
 
-  pub says-sample : {i : ℕ} {s : Sample} → i < 32 → (r ≡ sampleRow s) × (sampleIn r ≡ s)
+  pub says-sample : {i : ℕ} {s : Sample} → i < 32 → (IsCoded p → r ≡ sampleRow s) × (sampleIn r ≡ s)
       → Says p (set p (24 + i) r) (withSamples (pathIn p) (set (pathIn p .rtts .samples) i s))
   says-sample {i} {s} h e =
-      one p (24 + i) r (withSamples (pathIn p) (set (pathIn p .rtts .samples) i s)) (ne-eqb 64 (24 + i) (λ q. absurd (omega arith)))
+      one p (24 + i) r _ (withSamples (pathIn p) (set (pathIn p .rtts .samples) i s)) (ne-eqb 64 (24 + i) (λ q. absurd (omega arith)))
       (view.view-sample p r h (e .1))
-      (ap (λ (z : List ℕ). set (slotRows (slotIn p)) (24 + i) z) (e .0) ∙ code.code-sample (slotIn p) (long-rows p n) i s h)
+      (code.code-sample (slotIn p) (long-rows p n) i s h) (e .0)
 
-  pub says-span : {i : ℕ} {s : Span} → i < 8 → (r ≡ spanRow s) × (spanIn r ≡ s)
+  pub says-span : {i : ℕ} {s : Span} → i < 8 → (IsCoded p → r ≡ spanRow s) × (spanIn r ≡ s)
       → Says p (set p (56 + i) r) (withSpans (pathIn p) (set (pathIn p .rtts .spans) i s))
   says-span {i} {s} h e =
-      one p (56 + i) r (withSpans (pathIn p) (set (pathIn p .rtts .spans) i s)) (ne-eqb 64 (56 + i) (λ q. absurd (omega arith)))
+      one p (56 + i) r _ (withSpans (pathIn p) (set (pathIn p .rtts .spans) i s)) (ne-eqb 64 (56 + i) (λ q. absurd (omega arith)))
       (view.view-span p r h (e .1))
-      (ap (λ (z : List ℕ). set (slotRows (slotIn p)) (56 + i) z) (e .0) ∙ code.code-span (slotIn p) (long-rows p n) i s h)
+      (code.code-span (slotIn p) (long-rows p n) i s h) (e .0)
 
 -- two rows stored
 module _ (p : List (List ℕ)) (n : length p ≡ 65) (a b : List ℕ) where
@@ -191,6 +196,27 @@ module _ (p : List (List ℕ)) (n : length p ≡ 65) (a b : List ℕ) where
       (λ c. sym (code.code-stop (slotIn p) (long-rows p n) m)
       ∙ (λ j. set (set (c j) 14 (sym (e .0) j)) 15 (sym (e .1) j)))
 
+-- ---- rows of the encoder's
+
+module _ (p : List (List ℕ)) (n : length p ≡ 65) where
+  -- the row at a place where r stored over the encoder's rows is no change
+  coded-row : (k : ℕ) (r : List ℕ) → k < 65 → set (slotRows (slotIn p)) k r ≡ slotRows (slotIn p) → IsCoded p → row p k ≡ r
+  coded-row k r h e c =
+      let z : set p k r ≡ p = ap (λ (x : List (List ℕ)). set x k r) (sym c) ∙ e ∙ c in
+      ap (λ (x : List (List ℕ)). row x k) (sym z) ∙ row-same p k r (omega arith)
+
+  pub coded-ring : (i : ℕ) → i < 8 → IsCoded p → row p i ≡ sentRow (getD (pathIn p .ring) i noSent)
+  coded-ring i h =
+      coded-row i _ (omega arith)
+      (code.code-ring (slotIn p) (long-rows p n) i (getD (pathIn p .ring) i noSent) h
+      ∙ ap (λ (l : List Sent). slotRows (onPath (slotIn p) (withRing (pathIn p) l))) (set-getD (pathIn p .ring) i noSent))
+
+  pub coded-late : (i : ℕ) → i < 4 → IsCoded p → row p (8 + i) ≡ sentRow (getD (pathIn p .late) i noSent)
+  coded-late i h =
+      coded-row (8 + i) _ (omega arith)
+      (code.code-late (slotIn p) (long-rows p n) i (getD (pathIn p .late) i noSent) h
+      ∙ ap (λ (l : List Sent). slotRows (onPath (slotIn p) (withLate (pathIn p) l))) (set-getD (pathIn p .late) i noSent))
+
 -- ---- places that are not there
 
 module _ (p : List (List ℕ)) (n : length p ≡ 65) {i : ℕ} where
@@ -198,9 +224,19 @@ module _ (p : List (List ℕ)) (n : length p ≡ 65) {i : ℕ} where
   past-ring s h =
       says-none (ap (λ (l : List Sent). withRing (pathIn p) l) (sym (set-out (pathIn p .ring) i s (omega (arith, long-rows p n .ring)))))
 
+  pub none-ring : {q : List (List ℕ)} {x : Sent} (to : ℕ) → 8 ≤ i → x ≡ noSent
+      → Says p q (withRing (pathIn p) (set (pathIn p .ring) to x)) → Says p q (withRing (pathIn p) (moved (pathIn p .ring) i to))
+  none-ring {q} {x} to h e s =
+      says-as s (ap (λ (y : Sent). withRing (pathIn p) (set (pathIn p .ring) to y)) (view.ring-past p n h e))
+
   pub past-late : (s : Sent) → 4 ≤ i → Says p p (withLate (pathIn p) (set (pathIn p .late) i s))
   past-late s h =
       says-none (ap (λ (l : List Sent). withLate (pathIn p) l) (sym (set-out (pathIn p .late) i s (omega (arith, long-rows p n .late)))))
+
+  pub none-late : {q : List (List ℕ)} {x : Sent} (to : ℕ) → 4 ≤ i → x ≡ noSent
+      → Says p q (withLate (pathIn p) (set (pathIn p .late) to x)) → Says p q (withLate (pathIn p) (moved (pathIn p .late) i to))
+  none-late {q} {x} to h e s =
+      says-as s (ap (λ (y : Sent). withLate (pathIn p) (set (pathIn p .late) to y)) (view.late-past p n h e))
 
   pub past-sample : (s : Sample) → 32 ≤ i → Says p p (withSamples (pathIn p) (set (pathIn p .rtts .samples) i s))
   past-sample s h =

@@ -1,11 +1,19 @@
 -- A path with a part changed that is smaller than the parts of live's specs/Path.antt.
+use Prim.Native.Nat.{ℕ}
 use mathlib.Core.List.{List}
+use lib.ListN.{set, getD}
 use Rattle.base.specs.declared.types.MaybeTime.{MaybeTime}
+use Rattle.ring.specs.Ring.{noSent}
+use Rattle.ring.specs.declared.types.Sent.{Sent}
 use Rattle.rtt.specs.declared.types.Sample.{Sample}
 use Rattle.rtt.specs.declared.types.Span.{Span}
 use Rattle.stop.specs.declared.types.MaybeStop.{MaybeStop}
 use Rattle.live.specs.Path.{withSilence, withRtts}
 use Rattle.live.specs.declared.types.Liveness.{Liveness}
+
+-- a list with the probe at one place at another too
+abbrev pub moved : List Sent → ℕ → ℕ → List Sent
+moved l from to = set l to (getD l from noSent)
 
 -- another silence clock
 abbrev pub withQuiet : Liveness → MaybeTime → Liveness

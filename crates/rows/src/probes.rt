@@ -4,7 +4,7 @@ ghost use mathlib.Core.Path.{_≡_};
 ghost use lib.ListN.{length, set, getD};
 ghost use Rattle.ring.specs.Ring.{noSent};
 ghost use Rattle.live.specs.Path.{withRing, withLate, withIds, withLadder, withMisses};
-ghost use Rattle.rows.specs.Parts.{withQuiet};
+ghost use Rattle.rows.specs.Parts.{withQuiet, moved};
 ghost use Rattle.rows.specs.View.{pathIn};
 ghost use Rattle.rows.specs.Says.{Says};
 use base::types::MaybeTime;
@@ -55,6 +55,24 @@ pub fn set_sent(p: &mut [[u64; 4]; ROWS], i: usize, s: Sent)
     p[i] = t;
 }
 
+// Stores the probe at a place of the ring at another.
+pub fn move_sent(p: &mut [[u64; 4]; ROWS], from: usize, to: usize)
+    ensures { λ r. ⌜ Says (now (p .entry)) (now (p .exit))
+        (withRing (pathIn (now (p .entry))) (moved (pathIn (now (p .entry)) .ring) from to)) ⌝ }
+{
+    rows(p);
+    if RING <= from {
+        let free = ring::ring::none();
+        set_sent(p, to, free);
+        return;
+    }
+    if RING <= to {
+        return;
+    }
+    let t = p[from];
+    p[to] = t;
+}
+
 // The probe at a place of the late list.
 pub fn late(p: &[[u64; 4]; ROWS], i: usize) -> Sent
     ensures { λ r. ⌜ r ≡ getD (pathIn (now (p .entry)) .late) i noSent ⌝ }
@@ -78,6 +96,24 @@ pub fn set_late(p: &mut [[u64; 4]; ROWS], i: usize, s: Sent)
     }
     let t = sent_row(s);
     p[8 + i] = t;
+}
+
+// Stores the probe at a place of the late list at another.
+pub fn move_late(p: &mut [[u64; 4]; ROWS], from: usize, to: usize)
+    ensures { λ r. ⌜ Says (now (p .entry)) (now (p .exit))
+        (withLate (pathIn (now (p .entry))) (moved (pathIn (now (p .entry)) .late) from to)) ⌝ }
+{
+    rows(p);
+    if LATE <= from {
+        let free = ring::ring::none();
+        set_late(p, to, free);
+        return;
+    }
+    if LATE <= to {
+        return;
+    }
+    let t = p[8 + from];
+    p[8 + to] = t;
 }
 
 // The identifiers.

@@ -1,6 +1,6 @@
 -- `rows::measures::set_trip` meets its contract.
 -- Assumes nothing.
-use Rattle.rows.proofs.SaysLaws.{says-trip}
+use Rattle.rows.proofs.SaysLaws.{says-trip, whole}
 use borrow.Author.Needs.{needs}
 use Rattle.rows.proofs.measures.set_trip.Statement.{statement}
 use Rattle.rows.proofs.measures.set_trip.Tie as tie
@@ -15,7 +15,7 @@ element-set-from-t : tie.Need-element-set-from-t
 element-set-from-t c = search needs
 
 returns : tie.Need-returns
-returns c = says-trip _ (c .before .rows .ensures .1) _ (c .time-row .ensures)
+returns c = says-trip _ (c .before .rows .ensures .1) _ (whole (c .time-row .ensures))
 
 pub set-trip-spec : {M : Type 1} → statement M
 set-trip-spec = tie.close (tie.spec rows-requires time-row-requires element-set-from-t returns)

@@ -1,6 +1,6 @@
 -- `rows::probes::set_quiet` meets its contract.
 -- Assumes nothing.
-use Rattle.rows.proofs.SaysLaws.{says-quiet}
+use Rattle.rows.proofs.SaysLaws.{says-quiet, whole}
 use borrow.Author.Needs.{needs}
 use Rattle.rows.proofs.probes.set_quiet.Statement.{statement}
 use Rattle.rows.proofs.probes.set_quiet.Tie as tie
@@ -15,7 +15,7 @@ element-set-from-t : tie.Need-element-set-from-t
 element-set-from-t c = search needs
 
 returns : tie.Need-returns
-returns c = says-quiet _ (c .before .rows .ensures .1) _ (c .time-row .ensures)
+returns c = says-quiet _ (c .before .rows .ensures .1) _ (whole (c .time-row .ensures))
 
 pub set-quiet-spec : {M : Type 1} → statement M
 set-quiet-spec = tie.close (tie.spec rows-requires time-row-requires element-set-from-t returns)
