@@ -2,11 +2,13 @@
 // leaves all else.
 ghost use mathlib.Core.Path.{_≡_};
 ghost use lib.ListN.{length};
-ghost use Rattle.ring.specs.Ring.{maxWaiting, waiting, takenOut, remembered};
-ghost use Rattle.live.specs.Path.{withRing, withLate};
+ghost use Rattle.ring.specs.Ring.{maxWaiting, waiting, takenOut, remembered, dropSince};
+ghost use Rattle.live.specs.Path.{withRing, withLate, withIds};
 ghost use Rattle.rows.specs.View.{pathIn};
 ghost use Rattle.rows.specs.Says.{Says};
 ghost use Rattle.rowring.specs.Steps.{pressed, freedFrom};
+use crate::search::is_dropped;
+use base::types::MaybeId;
 use ring::types::*;
 use rows::probes::*;
 
@@ -69,6 +71,19 @@ pub fn remember(p: &mut [[u64; 4]; ROWS], s: Sent)
     move_late(p, 2, 1);
     move_late(p, 3, 2);
     set_late(p, 3, s);
+}
+
+// Drops since, before a send, if every waiting probe counts.
+pub fn drop_since(p: &mut [[u64; 4]; ROWS])
+    ensures { λ r. ⌜ Says (now (p .entry)) (now (p .exit)) (withIds (pathIn (now (p .entry)))
+        (dropSince (pathIn (now (p .entry)) .ids) (pathIn (now (p .entry)) .ring))) ⌝ }
+{
+    let m = ids(p);
+    let since = m.since;
+    if is_dropped(p, since) {
+        let none = MaybeId::None;
+        set_id(p, 3, none);
+    }
 }
 
 // The ring.

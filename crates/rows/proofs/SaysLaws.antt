@@ -11,6 +11,7 @@ use lib.Ieee.{Float}
 use lib.ListN.{length, set, getD}
 use lib.Seq.{set-out, set-getD}
 use Rattle.base.proofs.Cases.{never}
+use Rattle.base.specs.declared.types.MaybeId.{MaybeId}
 use Rattle.base.specs.declared.types.MaybeTime.{MaybeTime}
 use Rattle.ring.specs.Ring.{noSent}
 use Rattle.ring.specs.declared.types.Sent.{Sent}
@@ -27,9 +28,10 @@ use Rattle.rules.specs.declared.types.Reply.{Reply}
 use Rattle.rules.specs.declared.types.Turn.{Turn}
 use Rattle.rules.specs.Rules.{turn}
 use Rattle.cells.specs.Cells.{sentIn, idsIn, firstTime, sizesIn, ladderIn, trafficIn, missesIn, etxIn, sampleIn, spanIn}
-use Rattle.cells.specs.Cells.{labelIn, usedIn, stopIn}
+use Rattle.cells.specs.Cells.{labelIn, usedIn, stopIn, idIn, withWord, withId}
 use Rattle.cells.specs.Code.{sentRow, idsRow, timeRow, seekRow, provenRow, ladderRow, arrivalsRow, countersRow}
-use Rattle.cells.specs.Code.{stopRow, untilRow, missesRow, etxRow, sampleRow, spanRow}
+use Rattle.cells.proofs.PartLaws.{id-put, id-coded}
+use Rattle.cells.specs.Code.{idWord, stopRow, untilRow, missesRow, etxRow, sampleRow, spanRow}
 use Rattle.rows.specs.Parts.{moved, withQuiet, withStop, withSamples, withSpans, withTrip}
 use Rattle.rows.specs.View.{row, pathIn, slotIn}
 use Rattle.rows.specs.Encode.{slotRows, IsCoded}
@@ -52,6 +54,14 @@ says-then s t = record { path = t .path; marks = t .marks ∙ s .marks; coded = 
 -- the path by another name
 pub says-as : {a b : List (List ℕ)} {q r : Liveness} → Says a b q → q ≡ r → Says a b r
 says-as s e = record { path = s .path ∙ e; marks = s .marks; coded = s .coded }
+
+-- the identifiers m stored by the one of them that changed
+pub says-after : {a b : List (List ℕ)} {m o : Ids} (k : ℕ) (x : Ids → MaybeId) → m ≡ o → withId (pathIn a .ids) k (x o) ≡ o
+    → Says a b (withIds (pathIn a) (withId (pathIn a .ids) k (x m))) → Says a b (withIds (pathIn a) m)
+says-after {a} k x e f s =
+    says-as s
+    (ap (λ (z : Ids). withIds (pathIn a) (withId (pathIn a .ids) k (x z))) e
+    ∙ ap (λ (z : Ids). withIds (pathIn a) z) (f ∙ sym e))
 
 -- a path stored, and an answer that is none of the refusals
 pub turns-by : {a b : List (List ℕ)} {q : Liveness} {x y : Reply} → Says a b q → x ≡ y → isRefused x ≡ false
@@ -204,6 +214,16 @@ module _ (p : List (List ℕ)) (n : length p ≡ 65) where
   coded-row k r h e c =
       let z : set p k r ≡ p = ap (λ (x : List (List ℕ)). set x k r) (sym c) ∙ e ∙ c in
       ap (λ (x : List (List ℕ)). row x k) (sym z) ∙ row-same p k r (omega arith)
+
+  -- one of the identifiers stored
+  pub says-id : (k : ℕ) {w : ℕ} {m : MaybeId} {r : List ℕ} → (w ≡ idWord m) × (idIn w ≡ m) → r ≡ withWord (row p 12) k w
+      → Says p (set p 12 r) (withIds (pathIn p) (withId (pathIn p .ids) k m))
+  unfolding pathIn
+  says-id k {w} {m} {r} e f =
+      says-ids p n r (
+        λ c. f ∙ id-coded k w m (row p 12) (pathIn p .ids) (coded-row 12 _ (omega arith) (code.code-ids (slotIn p) (long-rows p n) (pathIn p .ids)) c) (e .0),
+        ap idsIn f ∙ id-put k w m (row p 12) (e .1),
+      )
 
   pub coded-ring : (i : ℕ) → i < 8 → IsCoded p → row p i ≡ sentRow (getD (pathIn p .ring) i noSent)
   coded-ring i h =

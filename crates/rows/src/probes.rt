@@ -3,13 +3,15 @@
 ghost use mathlib.Core.Path.{_≡_};
 ghost use lib.ListN.{length, set, getD};
 ghost use Rattle.ring.specs.Ring.{noSent};
+ghost use Rattle.cells.specs.Cells.{withId};
 ghost use Rattle.live.specs.Path.{withRing, withLate, withIds, withLadder, withMisses};
 ghost use Rattle.rows.specs.Parts.{withQuiet, moved};
 ghost use Rattle.rows.specs.View.{pathIn};
 ghost use Rattle.rows.specs.Says.{Says};
-use base::types::MaybeTime;
+use base::types::*;
 use cells::measures::*;
 use cells::probes::*;
+use cells::words::*;
 use ring::types::*;
 use seek::types::Ladder;
 
@@ -131,6 +133,18 @@ pub fn set_ids(p: &mut [[u64; 4]; ROWS], m: Ids)
     rows(p);
     let t = ids_row(m);
     p[12] = t;
+}
+
+// Stores one of the identifiers, by its place in their row: next, answered, epoch, since.
+pub fn set_id(p: &mut [[u64; 4]; ROWS], k: usize, m: MaybeId)
+    ensures { λ r. ⌜ Says (now (p .entry)) (now (p .exit))
+        (withIds (pathIn (now (p .entry))) (withId (pathIn (now (p .entry)) .ids) k m)) ⌝ }
+{
+    rows(p);
+    let t = p[12];
+    let w = id_word(m);
+    let u = put(t, k, w);
+    p[12] = u;
 }
 
 // The silence clock.

@@ -35,10 +35,10 @@ use Rattle.rules.specs.declared.types.Label.{Label}
 use Rattle.rules.specs.declared.types.Reply.{Reply}
 use Rattle.rules.specs.declared.types.Reply.the-variants as reply
 use Rattle.rules.specs.declared.types.Turn.{Turn}
-use Rattle.cells.specs.Cells.{labelIn}
+use Rattle.cells.specs.Cells.{labelIn, withId}
 use Rattle.rows.specs.View.{pathIn, slotIn}
 use Rattle.rows.specs.Says.{Says, Turns}
-use Rattle.rows.proofs.SaysLaws.{says-then, says-as, turns-by, turns-none}
+use Rattle.rows.proofs.SaysLaws.{says-then, says-as, says-after, turns-by, turns-none}
 use Rattle.rowsizes.specs.Settles.{Settles}
 
 -- the turn by another name
@@ -137,9 +137,12 @@ module _ (a : List (List ℕ)) (e : Event) {l : Label} (f : l ≡ slotIn a .labe
     -- the size that is proposed is sent
     pub search-sent : {b c : List (List ℕ)} {n id : ℕ} {o i : Ids} {t : Sizes} → m ≡ len.Some n → n ≤ 65535
         → o ≡ pathIn a .ids → id ≡ takenOf (o .«next_id») (e .id) → i ≡ nextIds o id
-        → t ≡ sentSearch s (e .now) n id → Says a b (withIds (pathIn a) i) → Says b c (withSizes (pathIn b) t)
+        → t ≡ sentSearch s (e .now) n id → Says a b (withIds (pathIn a) (withId (pathIn a .ids) 0 (i .«next_id»)))
+        → Says b c (withSizes (pathIn b) t)
         → Turns a c (reply.Id id) (sought (seekSizeOf (pathIn a) (slotIn a .label .full) (e .now)))
-    search-sent {b} {c} {n} {id} {o} {i} {t} z v q r w x y u =
+    search-sent {b} {c} {n} {id} {o} {i} {t} z v q r w x y₀ u =
+        let y : Says a b (withIds (pathIn a) i) =
+        says-after 0 (λ (k : Ids). k .«next_id») (w ∙ ap (λ (k : Ids). nextIds k id) q) refl y₀ in
         let r′ : id ≡ takenOf (pathIn a .ids .«next_id») (e .id) =
         r ∙ ap (λ (j : Ids). takenOf (j .«next_id») (e .id)) q in
         let w′ : i ≡ nextIds (pathIn a .ids) (takenOf (pathIn a .ids .«next_id») (e .id)) =
@@ -210,11 +213,13 @@ module _ (a : List (List ℕ)) (now timeout gap : ℕ) where
 
 -- the four parts stored
 pub fresh-made : {a b c d f : List (List ℕ)} {s t : Sizes} {o i : Ids} → s ≡ pathIn a .sizes → o ≡ pathIn a .ids
-    → i ≡ freshIds o → t ≡ freshSizes s → Says a b (withIds (pathIn a) i) → Says b c (withMisses (pathIn b) 0)
+    → i ≡ freshIds o → t ≡ freshSizes s → Says a b (withIds (pathIn a) (withId (pathIn a .ids) 2 (i .epoch)))
+    → Says b c (withMisses (pathIn b) 0)
     → Says c d (withSizes (pathIn c) t)
     → Says d f (withLadder (pathIn d) (record { last = len.None; fallen = false }))
     → Turns a f reply.Nothing (turn (slotIn a) (freshOf (pathIn a)) reply.Nothing)
-fresh-made {a} {b} {c} {d} {f} {s} {t} {o} {i} g q r w x y u v =
+fresh-made {a} {b} {c} {d} {f} {s} {t} {o} {i} g q r w x₀ y u v =
+    let x : Says a b (withIds (pathIn a) i) = says-after 2 (λ (k : Ids). k .epoch) (r ∙ ap freshIds q) refl x₀ in
     let none : Ladder = record { last = len.None; fallen = false } in
     let e : pathIn d ≡ withSizes (withMisses (withIds (pathIn a) i) 0) t =
     u .path ∙ ap (λ (p : Liveness). withSizes p t) (y .path ∙ ap (λ (p : Liveness). withMisses p 0) (x .path)) in
