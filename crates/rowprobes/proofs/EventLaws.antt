@@ -20,21 +20,14 @@ use Rattle.live.specs.Path.{withRing, withLate, withIds, withLadder, withMisses
 use Rattle.live.specs.Probe.{newSent, sentPath, sendOf, answerOf, clearOf, thawOf}
 use Rattle.live.specs.declared.types.Liveness.{Liveness}
 use Rattle.rules.specs.Rules.{turn, turnBy}
-use Rattle.rules.specs.declared.types.Reply.{Reply}
 use Rattle.rules.specs.declared.types.Reply.the-variants as reply
-use Rattle.rules.specs.declared.types.Turn.{Turn}
 use Rattle.cells.specs.Cells.{withId}
 use Rattle.rows.specs.Parts.{withQuiet}
 use Rattle.rows.specs.View.{pathIn, slotIn}
 use Rattle.rows.specs.Says.{Says, Turns}
-use Rattle.rows.proofs.SaysLaws.{says-as, says-after, turns-by, turns-none}
+use Rattle.rows.proofs.SaysLaws.{says-as, says-after, turns-by, turns-none, turns-as}
 use Rattle.rowring.specs.Steps.{freedFrom}
 use Rattle.rowring.proofs.ShutLaws.{says-on}
-
--- the turn by another name
-pub turns-as : {a b : List (List ℕ)} {x : Reply} {t t′ : Turn} → Turns a b x t → t ≡ t′ → Turns a b x t′
-turns-as s e =
-    record { answer = s .answer ∙ ap (λ (t : Turn). t .reply) e; slot = s .slot ∙ ap (λ (t : Turn). t .slot) e; coded = s .coded; left = s .left }
 
 -- ---- probe
 

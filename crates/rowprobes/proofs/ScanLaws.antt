@@ -33,11 +33,10 @@ use Rattle.works.specs.Works.{wholePoll}
 use Rattle.works.proofs.PollLaws.{Polled, polled-start, polled-none, polled-next, polled-end}
 use Rattle.rows.specs.View.{pathIn, slotIn}
 use Rattle.rows.specs.Says.{Says, Turns}
-use Rattle.rows.proofs.SaysLaws.{says-none, says-then, says-as, turns-by}
+use Rattle.rows.proofs.SaysLaws.{says-none, says-then, says-as, turns-by, turns-as}
 use Rattle.rows.proofs.ViewLaws.{ring-length}
 use Rattle.rowring.proofs.ShutLaws.{says-on, ring-is, again}
 use Rattle.rowprobes.specs.Scan.{scanIn, lapsedIn}
-use Rattle.rowprobes.proofs.EventLaws.{turns-as}
 
 -- ---- the scan
 

@@ -1,17 +1,18 @@
 -- What a store leaves, of each part; and stores one after the other.
 -- Assumes nothing.
 use Prim.Native.Nat.{ℕ, _+_, _<_, _≤_}
-use mathlib.Core.Path.{_≡_, refl, ap, sym, _∙_}
+use mathlib.Core.Path.{_≡_, refl, ap, sym, _∙_, subst}
 use mathlib.Core.Bool.{false}
-use mathlib.Core.List.{List}
+use mathlib.Core.List.{List, []}
 use native.Mathlib.Omega.{arith}
 use borrow.Author.Tests.{ne-eqb}
 use lib.Dec.{eqb}
 use lib.Ieee.{Float}
-use lib.ListN.{length, set, getD}
+use lib.ListN.{length, set, getD, length-set}
 use lib.Seq.{set-out, set-getD}
 use Rattle.base.proofs.Cases.{never}
 use Rattle.base.specs.declared.types.MaybeId.{MaybeId}
+use Rattle.base.specs.declared.types.MaybeLen.{MaybeLen}
 use Rattle.base.specs.declared.types.MaybeTime.{MaybeTime}
 use Rattle.ring.specs.Ring.{noSent}
 use Rattle.ring.specs.declared.types.Sent.{Sent}
@@ -28,11 +29,11 @@ use Rattle.rules.specs.declared.types.Reply.{Reply}
 use Rattle.rules.specs.declared.types.Turn.{Turn}
 use Rattle.rules.specs.Rules.{turn}
 use Rattle.cells.specs.Cells.{sentIn, idsIn, firstTime, sizesIn, ladderIn, trafficIn, missesIn, etxIn, sampleIn, spanIn}
-use Rattle.cells.specs.Cells.{labelIn, usedIn, stopIn, idIn, withWord, withId}
+use Rattle.cells.specs.Cells.{labelIn, usedIn, stopIn, word, idIn, lengthIn, withWord, firstTwo, withId}
 use Rattle.cells.specs.Code.{sentRow, idsRow, timeRow, seekRow, provenRow, ladderRow, arrivalsRow, countersRow}
 use Rattle.cells.proofs.PartLaws.{id-put, id-coded}
-use Rattle.cells.specs.Code.{idWord, stopRow, untilRow, missesRow, etxRow, sampleRow, spanRow}
-use Rattle.rows.specs.Parts.{moved, withQuiet, withStop, withSamples, withSpans, withTrip}
+use Rattle.cells.specs.Code.{idWord, lenWord, stopRow, untilRow, missesRow, etxRow, sampleRow, spanRow}
+use Rattle.rows.specs.Parts.{moved, withProven, withSeek, withQuiet, withStop, withSamples, withSpans, withTrip}
 use Rattle.rows.specs.View.{row, pathIn, slotIn}
 use Rattle.rows.specs.Encode.{slotRows, IsCoded}
 use Rattle.rows.specs.Says.{Says, Turns, isRefused}
@@ -121,6 +122,16 @@ one p k r r′ q h e f g =
 pub whole : {p : List (List ℕ)} {r r′ : List ℕ} {A : Type 0} → (r ≡ r′) × A → (IsCoded p → r ≡ r′) × A
 whole e = (λ c. e .0, e .1)
 
+-- the first word of a row, then those of another
+abbrev firstOne : List ℕ → List ℕ → List ℕ
+firstOne u t = withWord t 0 (word u 0)
+
+-- a row made whole, of which the words that say something are stored over those of an encoder's row
+over : {A C : Type 0} (w : List ℕ → List ℕ → List ℕ) (row : A → List ℕ) (said : List ℕ → A) {m : A} (o : A) {u t r : List ℕ}
+    → (u ≡ row m) × (said u ≡ m) → r ≡ w u t → (C → t ≡ row o) → ((x y : A) → w (row x) (row y) ≡ row x)
+    → ((x y : List ℕ) → said (w x y) ≡ said x) → (C → r ≡ row m) × (said r ≡ m)
+over w row said {m} o {u} {t} e f g h i = (λ c. f ∙ (λ j. w (e .0 j) (g c j)) ∙ h m o, ap said f ∙ i u t ∙ e .1)
+
 module _ (p : List (List ℕ)) (n : length p ≡ 65) (r : List ℕ) where
   pub says-ids : {m : Ids} → (IsCoded p → r ≡ idsRow m) × (idsIn r ≡ m) → Says p (set p 12 r) (withIds (pathIn p) m)
   says-ids {m} e =
@@ -182,21 +193,21 @@ module _ (p : List (List ℕ)) (n : length p ≡ 65) (r : List ℕ) where
 
 -- two rows stored
 module _ (p : List (List ℕ)) (n : length p ≡ 65) (a b : List ℕ) where
-  pub says-sizes : {s : Sizes} → (a ≡ seekRow s) × (b ≡ provenRow s) × (sizesIn a b ≡ s)
+  pub says-sizes : {s : Sizes} → (IsCoded p → (a ≡ seekRow s) × (b ≡ provenRow s)) × (sizesIn a b ≡ s)
       → Says p (set (set p 16 a) 17 b) (withSizes (pathIn p) s)
   says-sizes {s} e =
-      made p (set (set p 16 a) 17 b) (withSizes (pathIn p) s) (view.view-sizes p n a b (e .2))
+      made p (set (set p 16 a) 17 b) (withSizes (pathIn p) s) (view.view-sizes p n a b (e .1))
       (row-other (set p 16 a) 17 b 64 refl ∙ row-other p 16 a 64 refl)
       (λ c. sym (code.code-sizes (slotIn p) (long-rows p n) s)
-      ∙ (λ j. set (set (c j) 16 (sym (e .0) j)) 17 (sym (e .1) j)))
+      ∙ (λ j. set (set (c j) 16 (sym (e .0 c .0) j)) 17 (sym (e .0 c .1) j)))
 
-  pub says-traffic : {s : Traffic} → (a ≡ arrivalsRow s) × (b ≡ countersRow s) × (trafficIn a b ≡ s)
+  pub says-traffic : {s : Traffic} → (IsCoded p → (a ≡ arrivalsRow s) × (b ≡ countersRow s)) × (trafficIn a b ≡ s)
       → Says p (set (set p 19 a) 20 b) (withTraffic (pathIn p) s)
   says-traffic {s} e =
-      made p (set (set p 19 a) 20 b) (withTraffic (pathIn p) s) (view.view-traffic p n a b (e .2))
+      made p (set (set p 19 a) 20 b) (withTraffic (pathIn p) s) (view.view-traffic p n a b (e .1))
       (row-other (set p 19 a) 20 b 64 refl ∙ row-other p 19 a 64 refl)
       (λ c. sym (code.code-traffic (slotIn p) (long-rows p n) s)
-      ∙ (λ j. set (set (c j) 19 (sym (e .0) j)) 20 (sym (e .1) j)))
+      ∙ (λ j. set (set (c j) 19 (sym (e .0 c .0) j)) 20 (sym (e .0 c .1) j)))
 
   pub says-stop : {m : MaybeStop} → (a ≡ stopRow m) × (b ≡ untilRow m) × (stopIn a b ≡ m)
       → Says p (set (set p 14 a) 15 b) (withStop (pathIn p) m)
@@ -214,6 +225,99 @@ module _ (p : List (List ℕ)) (n : length p ≡ 65) where
   coded-row k r h e c =
       let z : set p k r ≡ p = ap (λ (x : List (List ℕ)). set x k r) (sym c) ∙ e ∙ c in
       ap (λ (x : List (List ℕ)). row x k) (sym z) ∙ row-same p k r (omega arith)
+
+  -- the same of two rows
+  coded-two : (k l : ℕ) (a b : List ℕ) → k < 65 → l < 65 → eqb k l ≡ false
+      → set (set (slotRows (slotIn p)) k a) l b ≡ slotRows (slotIn p) → IsCoded p → (row p k ≡ a) × (row p l ≡ b)
+  coded-two k l a b h i d e c =
+      let z : set (set p k a) l b ≡ p = ap (λ (x : List (List ℕ)). set (set x k a) l b) (sym c) ∙ e ∙ c in (
+        ap (λ (x : List (List ℕ)). row x k) (sym z) ∙ row-other (set p k a) l b k d ∙ row-same p k a (omega arith),
+        ap (λ (x : List (List ℕ)). row x l) (sym z) ∙ row-same (set p k a) l b (omega (arith, length-set p k a)),
+      )
+
+  -- the silence clock stored in its words
+  pub put-quiet : {m : MaybeTime} {u r : List ℕ} → (u ≡ timeRow m) × (firstTime u ≡ m) → r ≡ firstTwo u (row p 13)
+      → Says p (set p 13 r) (withQuiet (pathIn p) m)
+  unfolding timeRow firstTime
+  put-quiet {m} {u} {r} e f =
+      says-quiet p n r
+      (over firstTwo timeRow firstTime (pathIn p .silence .quiet) e f
+      (coded-row 13 _ (omega arith) (code.code-quiet (slotIn p) (long-rows p n) (pathIn p .silence .quiet))) (λ x y. refl) (λ x y. refl))
+
+  -- the latest round trip
+  pub put-trip : {m : MaybeTime} {u r : List ℕ} → (u ≡ timeRow m) × (firstTime u ≡ m) → r ≡ firstTwo u (row p 23)
+      → Says p (set p 23 r) (withTrip (pathIn p) m)
+  unfolding timeRow firstTime
+  put-trip {m} {u} {r} e f =
+      says-trip p n r
+      (over firstTwo timeRow firstTime (pathIn p .rtts .rtt) e f
+      (coded-row 23 _ (omega arith) (code.code-trip (slotIn p) (long-rows p n) (pathIn p .rtts .rtt))) (λ x y. refl) (λ x y. refl))
+
+  -- the ladder
+  pub put-ladder : {m : Ladder} {u r : List ℕ} → (u ≡ ladderRow m) × (ladderIn u ≡ m) → r ≡ firstTwo u (row p 18)
+      → Says p (set p 18 r) (withLadder (pathIn p) m)
+  unfolding ladderRow ladderIn
+  put-ladder {m} {u} {r} e f =
+      says-ladder p n r
+      (over firstTwo ladderRow ladderIn (pathIn p .ladder) e f
+      (coded-row 18 _ (omega arith) (code.code-ladder (slotIn p) (long-rows p n) (pathIn p .ladder))) (λ x y. refl) (λ x y. refl))
+
+  -- the misses
+  pub put-misses : {m : ℕ} {u r : List ℕ} → (u ≡ missesRow m) × (missesIn u ≡ m) → r ≡ firstOne u (row p 21)
+      → Says p (set p 21 r) (withMisses (pathIn p) m)
+  unfolding missesRow missesIn
+  put-misses {m} {u} {r} e f =
+      says-misses p n r
+      (over firstOne missesRow missesIn (pathIn p .misses) e f
+      (coded-row 21 _ (omega arith) (code.code-misses (slotIn p) (long-rows p n) (pathIn p .misses))) (λ x y. refl) (λ x y. refl))
+
+  -- the ETX
+  pub put-etx : {m : Float} {u r : List ℕ} → (u ≡ etxRow m) × (etxIn u ≡ m) → r ≡ firstOne u (row p 22)
+      → Says p (set p 22 r) (withEtx (pathIn p) m)
+  unfolding etxRow etxIn
+  put-etx {m} {u} {r} e f =
+      says-etx p n r
+      (over firstOne etxRow etxIn (pathIn p .etx) e f
+      (coded-row 22 _ (omega arith) (code.code-etx (slotIn p) (long-rows p n) (pathIn p .etx))) (λ x y. refl) (λ x y. refl))
+
+  -- the traffic
+  pub put-traffic : {s : Traffic} {a b r : List ℕ} → (a ≡ arrivalsRow s) × (b ≡ countersRow s) × (trafficIn a b ≡ s)
+      → r ≡ firstTwo b (row p 20) → Says p (set (set p 19 a) 20 r) (withTraffic (pathIn p) s)
+  unfolding countersRow trafficIn
+  put-traffic {s} {a} {b} {r} e f =
+      says-traffic p n a r (
+        λ c. (
+          e .0,
+          f ∙ (λ j. firstTwo (e .1 j)
+              (coded-two 19 20 _ _ (omega arith) (omega arith) refl (code.code-traffic (slotIn p) (long-rows p n) (pathIn p .traffic)) c .1 j)),
+        ),
+        ap (trafficIn a) f ∙ e .2,
+      )
+
+  -- the rows of the sizes
+  coded-sizes : IsCoded p → (row p 16 ≡ seekRow (pathIn p .sizes)) × (row p 17 ≡ provenRow (pathIn p .sizes))
+  coded-sizes = coded-two 16 17 _ _ (omega arith) (omega arith) refl (code.code-sizes (slotIn p) (long-rows p n) (pathIn p .sizes))
+
+  -- the proven size
+  pub put-proven : {m : MaybeLen} {w : ℕ} {r : List ℕ} → (w ≡ lenWord m) × (lengthIn w ≡ m) → r ≡ withWord (row p 17) 1 w
+      → Says p (set p 17 r) (withProven (pathIn p) m)
+  unfolding seekRow provenRow sizesIn pathIn
+  put-proven {m} {w} {r} e f =
+      subst (λ (z : List (List ℕ)). Says p (set z 17 r) (withProven (pathIn p) m)) (set-getD p 16 [])
+      (says-sizes p n (row p 16) r (
+        λ c. (coded-sizes c .0, f ∙ (λ j. withWord (coded-sizes c .1 j) 1 (e .0 j))),
+        ap (sizesIn (row p 16)) f ∙ ap (λ (x : MaybeLen). record { seek = pathIn p .sizes .seek; proven = x }) (e .1),
+      ))
+
+  -- the search
+  pub put-seek : {x : Sizes} {a b r : List ℕ} → (a ≡ seekRow x) × (b ≡ provenRow x) × (sizesIn a b ≡ x)
+      → r ≡ firstOne b (row p 17) → Says p (set (set p 16 a) 17 r) (withSeek (pathIn p) (x .seek))
+  unfolding seekRow provenRow sizesIn pathIn
+  put-seek {x} {a} {b} {r} e f =
+      says-sizes p n a r (
+        λ c. (e .0, f ∙ (λ j. firstOne (e .1 j) (coded-sizes c .1 j))),
+        ap (sizesIn a) f ∙ (λ j. record { seek = e .2 j .seek; proven = pathIn p .sizes .proven }),
+      )
 
   -- one of the identifiers stored
   pub says-id : (k : ℕ) {w : ℕ} {m : MaybeId} {r : List ℕ} → (w ≡ idWord m) × (idIn w ≡ m) → r ≡ withWord (row p 12) k w

@@ -160,8 +160,10 @@ pub fn set_quiet(p: &mut [[u64; 4]; ROWS], m: MaybeTime)
     ensures { λ r. ⌜ Says (now (p .entry)) (now (p .exit)) (withQuiet (pathIn (now (p .entry))) m) ⌝ }
 {
     rows(p);
-    let t = time_row(m);
-    p[13] = t;
+    let t = p[13];
+    let u = time_row(m);
+    let v = first_two(u, t);
+    p[13] = v;
 }
 
 // The ladder.
@@ -177,8 +179,10 @@ pub fn set_ladder(p: &mut [[u64; 4]; ROWS], l: Ladder)
     ensures { λ r. ⌜ Says (now (p .entry)) (now (p .exit)) (withLadder (pathIn (now (p .entry))) l) ⌝ }
 {
     rows(p);
-    let t = ladder_row(l);
-    p[18] = t;
+    let t = p[18];
+    let u = ladder_row(l);
+    let v = first_two(u, t);
+    p[18] = v;
 }
 
 // The misses.
@@ -194,6 +198,8 @@ pub fn set_misses(p: &mut [[u64; 4]; ROWS], n: u32)
     ensures { λ r. ⌜ Says (now (p .entry)) (now (p .exit)) (withMisses (pathIn (now (p .entry))) n) ⌝ }
 {
     rows(p);
-    let t = misses_row(n);
-    p[21] = t;
+    let t = p[21];
+    let u = misses_row(n);
+    let v = put(t, 0, u[0]);
+    p[21] = v;
 }

@@ -26,8 +26,9 @@ pub fn prove(p: &mut [[u64; 4]; ROWS], e: Event) -> Reply
     }
     let old = sizes(p);
     let proving = seek::search::prove(old, len as u16);
-    let proven = proving.sizes;
-    set_sizes(p, proven);
+    let after = proving.sizes;
+    let proven = after.proven;
+    set_proven(p, proven);
     Reply::Nothing
 }
 
@@ -92,6 +93,7 @@ pub fn fresh(p: &mut [[u64; 4]; ROWS]) -> Reply
     let after = ring::ids::fresh_ids(before);
     let epoch = after.epoch;
     let again = seek::search::fresh_sizes(old);
+    let start = again.seek;
     let none = MaybeLen::None;
     let ladder = Ladder {
         last: none,
@@ -99,7 +101,7 @@ pub fn fresh(p: &mut [[u64; 4]; ROWS]) -> Reply
     };
     set_id(p, 2, epoch);
     set_misses(p, 0);
-    set_sizes(p, again);
+    set_seek(p, start);
     set_ladder(p, ladder);
     Reply::Nothing
 }
