@@ -1,7 +1,7 @@
 -- What a row of four words says. Each definition is total, so that any words say something: a number is taken modulo
 -- its width, a mark is a word that is not 0.
 use Prim.Native.Nat.{ℕ, _-_, _/_, _%_, _^_}
-use mathlib.Core.List.{List}
+use mathlib.Core.List.{List, [], _∷_}
 use mathlib.Core.Bool.{Bool, not, cond}
 use lib.Dec.{leb, ltb, eqb}
 use lib.Ieee.{Float, binary64, ofBits}
@@ -28,6 +28,15 @@ use Rattle.rules.specs.declared.types.Settings.{Settings}
 -- a word of a row
 abbrev pub word : List ℕ → ℕ → ℕ
 word r k = getD r k 0
+
+-- a row with the word at a place anew
+abbrev pub withWord : List ℕ → ℕ → ℕ → List ℕ
+withWord r k x =
+    cond (eqb k 0) x (word r 0) ∷ cond (eqb k 1) x (word r 1) ∷ cond (eqb k 2) x (word r 2) ∷ cond (eqb k 3) x (word r 3) ∷ []
+
+-- the first two words of a row, the last two of another
+abbrev pub firstTwo : List ℕ → List ℕ → List ℕ
+firstTwo s r = word s 0 ∷ word s 1 ∷ word r 2 ∷ word r 3 ∷ []
 
 -- a mark
 abbrev pub flagIn : ℕ → Bool
@@ -64,6 +73,16 @@ idsIn r =
       answered = idIn (word r 1);
       epoch = idIn (word r 2);
       since = idIn (word r 3);
+    }
+
+-- the identifiers with the one at a place of that order anew
+abbrev pub withId : Ids → ℕ → MaybeId → Ids
+withId m k x =
+    record {
+      «next_id» = cond (eqb k 0) x (m .«next_id»);
+      answered = cond (eqb k 1) x (m .answered);
+      epoch = cond (eqb k 2) x (m .epoch);
+      since = cond (eqb k 3) x (m .since);
     }
 
 -- an instant or a duration in the first two words: the silence clock, the latest round trip

@@ -1,7 +1,8 @@
 // Single words: numbers by their width, and what may be missing.
 ghost use mathlib.Core.Path.{_≡_};
+ghost use mathlib.Core.Bool.{cond};
 ghost use Prim.Native.Nat.{_%_, _^_, _<_};
-ghost use Rattle.cells.specs.Cells.{idIn, lengthIn, instantIn};
+ghost use Rattle.cells.specs.Cells.{withWord, firstTwo, idIn, lengthIn, instantIn};
 ghost use Rattle.cells.specs.Code.{idWord, lenWord};
 use base::types::*;
 
@@ -84,4 +85,29 @@ pub fn time_in(tag: u64, t: u64) -> MaybeTime
     } else {
         MaybeTime::Some(t)
     }
+}
+
+// The first of two words, or the second.
+fn pick(first: bool, x: u64, y: u64) -> u64
+    ensures { λ r. ⌜ r ≡ cond first x y ⌝ }
+{
+    if first { x } else { y }
+}
+
+// A row with the word at a place anew.
+pub fn put(t: [u64; 4], k: usize, w: u64) -> [u64; 4]
+    ensures { λ r. ⌜ r ≡ withWord t k w ⌝ }
+{
+    let a = pick(k == 0, w, t[0]);
+    let b = pick(k == 1, w, t[1]);
+    let c = pick(k == 2, w, t[2]);
+    let d = pick(k == 3, w, t[3]);
+    [a, b, c, d]
+}
+
+// The first two words of a row, and the last two of another.
+pub fn first_two(u: [u64; 4], t: [u64; 4]) -> [u64; 4]
+    ensures { λ r. ⌜ r ≡ firstTwo u t ⌝ }
+{
+    [u[0], u[1], t[2], t[3]]
 }

@@ -20,20 +20,14 @@ use Rattle.live.specs.Path.{withRing, withLate, withIds, withLadder, withMisses
 use Rattle.live.specs.Probe.{newSent, sentPath, sendOf, answerOf, clearOf, thawOf}
 use Rattle.live.specs.declared.types.Liveness.{Liveness}
 use Rattle.rules.specs.Rules.{turn, turnBy}
-use Rattle.rules.specs.declared.types.Reply.{Reply}
 use Rattle.rules.specs.declared.types.Reply.the-variants as reply
-use Rattle.rules.specs.declared.types.Turn.{Turn}
+use Rattle.cells.specs.Cells.{withId}
 use Rattle.rows.specs.Parts.{withQuiet}
 use Rattle.rows.specs.View.{pathIn, slotIn}
 use Rattle.rows.specs.Says.{Says, Turns}
-use Rattle.rows.proofs.SaysLaws.{says-as, turns-by, turns-none}
+use Rattle.rows.proofs.SaysLaws.{says-as, says-after, turns-by, turns-none, turns-as}
 use Rattle.rowring.specs.Steps.{freedFrom}
 use Rattle.rowring.proofs.ShutLaws.{says-on}
-
--- the turn by another name
-pub turns-as : {a b : List (List ℕ)} {x : Reply} {t t′ : Turn} → Turns a b x t → t ≡ t′ → Turns a b x t′
-turns-as s e =
-    record { answer = s .answer ∙ ap (λ (t : Turn). t .reply) e; slot = s .slot ∙ ap (λ (t : Turn). t .slot) e; coded = s .coded; left = s .left }
 
 -- ---- probe
 
@@ -56,34 +50,40 @@ module _ (a : List (List ℕ)) (at due n draw : ℕ) where
     send-free k {id} e = rw (e, le-ltb maxLen n h, sym f, lt-leb maxWaiting slot k)
 
     -- the probe stored, with the identifiers, the silence clock and the ladder
-    pub send-made : {b c d e : List (List ℕ)} {old kept after : Ids} {id t : ℕ} {before : MaybeTime} {l : Ladder}
+    pub send-made : {o b c d e : List (List ℕ)} {kept after : Ids} {id t : ℕ} {before : MaybeTime} {l : Ladder}
         → slot < maxWaiting
-        → old ≡ pathIn a .ids
-        → kept ≡ dropSince old (pathIn a .ring)
+        → Says a o (withIds (pathIn a) (dropSince (pathIn a .ids) (pathIn a .ring)))
+        → kept ≡ pathIn o .ids
         → id ≡ takenOf (kept .«next_id») draw
         → after ≡ nextIds kept id
-        → before ≡ pathIn a .silence .quiet
+        → before ≡ pathIn o .silence .quiet
         → t ≡ fromOf before at
-        → l ≡ pathIn a .ladder
-        → Says a b (withRing (pathIn a) (set (pathIn a .ring) slot (newSent id at due n)))
-        → Says b c (withIds (pathIn b) after)
+        → l ≡ pathIn o .ladder
+        → Says o b (withRing (pathIn o) (set (pathIn o .ring) slot (newSent id at due n)))
+        → Says b c (withIds (pathIn b) (withId (pathIn b .ids) 0 (after .«next_id»)))
         → Says c d (withQuiet (pathIn c) (time.Some t))
         → Says d e (withLadder (pathIn d) (record { last = len.Some n; fallen = l .fallen }))
         → Turns a e (reply.Id id) (turnBy (slotIn a) (sendOf (pathIn a) at due n draw))
-    send-made {b} {c} {d} {e} {old} {kept} {after} {id} {t} {before} {l} k o i j m q u y s₁ s₂ s₃ s₄ =
-        let i′ : kept ≡ dropSince (pathIn a .ids) (pathIn a .ring) = i ∙ ap (λ (z : Ids). dropSince z (pathIn a .ring)) o in
+    send-made {o} {b} {c} {d} {e} {kept} {after} {id} {t} {before} {l} k s₀ i j m q u y s₁ s₂ s₃ s₄ =
+        let i′ : kept ≡ dropSince (pathIn a .ids) (pathIn a .ring) = i ∙ ap (λ (v : Liveness). v .ids) (s₀ .path) in
+        let q′ : before ≡ pathIn a .silence .quiet = q ∙ ap (λ (v : Liveness). v .silence .quiet) (s₀ .path) in
+        let y′ : l ≡ pathIn a .ladder = y ∙ ap (λ (v : Liveness). v .ladder) (s₀ .path) in
+        let s₁′ = says-on (λ (v : Liveness). withRing v (set (v .ring) slot (newSent id at due n))) s₀ s₁ in
+        let s₂′ : Says b c (withIds (pathIn b) after) =
+        says-after 0 (λ (z : Ids). z .«next_id»)
+        (m ∙ ap (λ (z : Ids). nextIds z id) (i′ ∙ sym (ap (λ (v : Liveness). v .ids) (s₁′ .path)))) refl s₂ in
         let m′ : after ≡ nextIds (dropSince (pathIn a .ids) (pathIn a .ring)) id = m ∙ ap (λ (z : Ids). nextIds z id) i′ in
-        let u′ : t ≡ fromOf (pathIn a .silence .quiet) at = u ∙ ap (λ (z : MaybeTime). fromOf z at) q in
+        let u′ : t ≡ fromOf (pathIn a .silence .quiet) at = u ∙ ap (λ (z : MaybeTime). fromOf z at) q′ in
         let s =
         says-on (λ (v : Liveness). withLadder v (record { last = len.Some n; fallen = l .fallen }))
-        (says-on (λ (v : Liveness). withQuiet v (time.Some t)) (says-on (λ (v : Liveness). withIds v after) s₁ s₂) s₃) s₄ in
+        (says-on (λ (v : Liveness). withQuiet v (time.Some t)) (says-on (λ (v : Liveness). withIds v after) s₁′ s₂′) s₃) s₄ in
         let e′ : withLadder
         (withQuiet (withIds (withRing (pathIn a) (set (pathIn a .ring) slot (newSent id at due n))) after) (time.Some t))
         (record { last = len.Some n; fallen = l .fallen })
         ≡ sentPath (pathIn a) (newSent id at due n) =
         λ z. withLadder
         (withQuiet (withIds (withRing (pathIn a) (set (pathIn a .ring) (f z) (newSent id at due n))) (m′ z)) (time.Some (u′ z)))
-        (record { last = len.Some n; fallen = y z .fallen }) in
+        (record { last = len.Some n; fallen = y′ z .fallen }) in
         turns-as (turns-by (says-as s e′) refl refl)
         (send-free k (j ∙ ap (λ (z : Ids). takenOf (z .«next_id») draw) i′))
 
@@ -96,13 +96,15 @@ module _ (a : List (List ℕ)) (id : ℕ) {slot : ℕ} (f : slot ≡ found id (p
       → old ≡ pathIn a .ids
       → after ≡ answeredIds old id
       → Says a b (withRing (pathIn a) (takenOut maxWaiting (pathIn a .ring) slot))
-      → Says b c (withIds (pathIn b) after)
+      → Says b c (withIds (pathIn b) (withId (pathIn b .ids) 1 (after .answered)))
       → Says c d (withMisses (pathIn c) 0)
       → Turns a d reply.InTime (turnBy (slotIn a) (answerOf (pathIn a) id))
   unfolding answerOf
   answer-in-time {b} {c} {d} {old} {after} h o m s₁ s₂ s₃ =
       let m′ : after ≡ answeredIds (pathIn a .ids) id = m ∙ ap (λ (z : Ids). answeredIds z id) o in
-      let s = says-on (λ (v : Liveness). withMisses v 0) (says-on (λ (v : Liveness). withIds v after) s₁ s₂) s₃ in
+      let s₂′ : Says b c (withIds (pathIn b) after) =
+      says-after 1 (λ (z : Ids). z .answered) (m′ ∙ sym (ap (λ (v : Liveness). answeredIds (v .ids) id) (s₁ .path))) refl s₂ in
+      let s = says-on (λ (v : Liveness). withMisses v 0) (says-on (λ (v : Liveness). withIds v after) s₁ s₂′) s₃ in
       rw (sym f, lt-ltb slot maxWaiting h, sym m′) (turns-by s refl refl)
 
   module _ (h : maxWaiting ≤ slot) {place : ℕ} (g : place ≡ found id (pathIn a .late)) where
@@ -122,10 +124,12 @@ module _ (a : List (List ℕ)) (id : ℕ) {slot : ℕ} (f : slot ≡ found id (p
 -- ---- thaw and sweep
 
 -- the identifiers stored
-pub thaw-made : {a b : List (List ℕ)} {old after : Ids} → old ≡ pathIn a .ids → after ≡ thawedIds old → Says a b (withIds (pathIn a) after)
+pub thaw-made : {a b : List (List ℕ)} {old after : Ids} → old ≡ pathIn a .ids → after ≡ thawedIds old
+    → Says a b (withIds (pathIn a) (withId (pathIn a .ids) 3 (after .since)))
     → Turns a b reply.Nothing (turn (slotIn a) (thawOf (pathIn a)) reply.Nothing)
 thaw-made {a} {b} {old} {after} o m s =
-    turns-by (says-as s (ap (λ (z : Ids). withIds (pathIn a) z) (m ∙ ap (λ (z : Ids). thawedIds z) o))) refl refl
+    let m′ : after ≡ thawedIds (pathIn a .ids) = m ∙ ap (λ (z : Ids). thawedIds z) o in
+    turns-by (says-as (says-after 3 (λ (z : Ids). z .since) m′ refl s) (ap (λ (z : Ids). withIds (pathIn a) z) m′)) refl refl
 
 -- the late list stored, and the ring freed
 pub sweep-made : {a b c : List (List ℕ)} {ring old after : List Sent} {n : ℕ}

@@ -1,15 +1,19 @@
 -- A scan that defers in place, what `expire` makes, and a poll one `expire` after the other.
 -- Assumes nothing.
-use Prim.Native.Nat.{ℕ, _+_, _<_, _≤_}
+use Prim.Native.Nat.{ℕ, _+_, _-_, _<_, _≤_}
 use mathlib.Core.Path.{_≡_, refl, ap, sym, _∙_}
-use mathlib.Core.Bool.{Bool, true, false, _||_}
+use mathlib.Core.Bool.{Bool, true, false, cond, _||_}
 use mathlib.Core.List.{List}
-use borrow.Author.Tests.{lt-leb, le-leb}
+use native.Mathlib.Omega.{arith}
+use borrow.Author.Tests.{lt-leb, le-leb, lt-ltb, le-ltb}
+use lib.Dec.{leb, ltb}
 use lib.ListN.{length, set, getD}
 use Rattle.base.specs.Limits.{durationEnd}
 use Rattle.base.specs.Seq.{position, keep}
 use Rattle.base.specs.declared.types.MaybeTime.{MaybeTime}
 use Rattle.base.specs.declared.types.MaybeTime.the-variants as time
+use Rattle.base.proofs.Cases.{on-order, cond-same}
+use Rattle.base.proofs.ScanLaws.{position-none}
 use Rattle.ring.specs.Ids.{isCounted, missedBy}
 use Rattle.ring.specs.Ring.{maxWaiting, takenOut, remembered, noSent}
 use Rattle.ring.specs.Lapse.{isPassed, deferOf, scanOf, isPadded, withDue}
@@ -29,11 +33,10 @@ use Rattle.works.specs.Works.{wholePoll}
 use Rattle.works.proofs.PollLaws.{Polled, polled-start, polled-none, polled-next, polled-end}
 use Rattle.rows.specs.View.{pathIn, slotIn}
 use Rattle.rows.specs.Says.{Says, Turns}
-use Rattle.rows.proofs.SaysLaws.{says-none, says-then, says-as, turns-by}
+use Rattle.rows.proofs.SaysLaws.{says-none, says-then, says-as, turns-by, turns-as}
 use Rattle.rows.proofs.ViewLaws.{ring-length}
 use Rattle.rowring.proofs.ShutLaws.{says-on, ring-is, again}
 use Rattle.rowprobes.specs.Scan.{scanIn, lapsedIn}
-use Rattle.rowprobes.proofs.EventLaws.{turns-as}
 
 -- ---- the scan
 
@@ -181,3 +184,23 @@ module _ {a : List (List ℕ)} {at : ℕ} {overdue : Bool} {cap : ℕ} {b : List
     pub poll-none : t ≡ false → Turns a c (reply.Count n) (polled (slotIn a) (wholePoll (pathIn a) at overdue cap))
     poll-none e =
         ended after ((λ k. record { path = g .1 .path k; lapses = n }) ∙ polled-none (s .done) h refl (sym (g .0) ∙ e))
+
+-- ---- the first whose due has passed
+
+-- where overdue no due has passed at instant 0
+pub none-before : (l : List Sent) {k : ℕ} → length l ≡ 8 → k ≡ 0 → 8 ≡ position (isPassed k true) l
+none-before l {k} n e =
+    sym n ∙ position-none noSent (isPassed k true) l (λ j h. none (getD l j noSent))
+  where
+    none : (s : Sent) → isPassed k true s ≡ false
+    none s = rw (le-ltb (s .due) k (omega arith)) (cond-same (s .used) false)
+
+-- and at any other one has passed if it is not after the instant before
+pub due-before : (l : List Sent) (k : ℕ) → (k ≡ 0 → ⊥) → position (isPassed (k - 1) false) l ≡ position (isPassed k true) l
+due-before l k h = λ i. position (λ (s : Sent). cond (s .used) (before (s .due) i) false) l
+  where
+    before : (due : ℕ) → leb due (k - 1) ≡ ltb due k
+    before due =
+        on-order due k
+        (λ o. le-leb due (k - 1) (omega arith) ∙ sym (lt-ltb due k o))
+        (λ o. lt-leb due (k - 1) (omega arith) ∙ sym (le-ltb due k o))

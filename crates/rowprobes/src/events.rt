@@ -42,11 +42,12 @@ pub fn probe(p: &mut [[u64; 4]; ROWS], e: Event) -> Reply
         return Reply::Refused(Refusal::Full);
     }
     let short = e.len as u16;
-    let old = ids(p);
-    let kept = drop_since(p, old);
+    drop_since(p);
+    let kept = ids(p);
     let next = kept.next_id;
     let id = ring::ids::taken(next, e.id);
     let after = ring::ids::next_ids(kept, id);
+    let later = after.next_id;
     let before = quiet(p);
     let first = MaybeTime::Some(first_of(before, e.now));
     let l = ladder(p);
@@ -63,7 +64,7 @@ pub fn probe(p: &mut [[u64; 4]; ROWS], e: Event) -> Reply
         used: true,
     };
     set_sent(p, slot, s);
-    set_ids(p, after);
+    set_id(p, 0, later);
     set_quiet(p, first);
     set_ladder(p, rung);
     Reply::Id(id)
@@ -78,8 +79,9 @@ pub fn answer_ring(p: &mut [[u64; 4]; ROWS], id: u32) -> Reply
     if slot < RING {
         let old = ids(p);
         let after = ring::ids::answered_ids(old, id);
+        let newest = after.answered;
         take_out(p, slot);
-        set_ids(p, after);
+        set_id(p, 1, newest);
         set_misses(p, 0);
         return Reply::InTime;
     }
@@ -115,7 +117,8 @@ pub fn thaw(p: &mut [[u64; 4]; ROWS]) -> Reply
 {
     let old = ids(p);
     let after = ring::ids::thawed_ids(old);
-    set_ids(p, after);
+    let since = after.since;
+    set_id(p, 3, since);
     Reply::Nothing
 }
 

@@ -1,5 +1,6 @@
 // The probe of a slot's rows that lapses: the first whose due has passed and that no data defers; deferred in place.
 ghost use mathlib.Core.Path.{_≡_};
+ghost use mathlib.Core.Bool.{false};
 ghost use Rattle.base.specs.Seq.{position};
 ghost use Rattle.ring.specs.Lapse.{passedAt, isPassed, deferOf};
 ghost use Rattle.live.specs.Answers.{hasLapsed};
@@ -34,20 +35,34 @@ fn is_passed(s: Sent, at: u64, overdue: bool) -> bool
     }
 }
 
-// The place of the first probe whose due has passed, or 8.
-fn first_passed(p: &[[u64; 4]; ROWS], at: u64, overdue: bool) -> usize
-    ensures { λ r. ⌜ r ≡ position (isPassed at overdue) (pathIn (now (p .entry)) .ring) ⌝ }
+// The place of the first probe whose due is not after an instant, or 8.
+fn first_due(p: &[[u64; 4]; ROWS], last: u64) -> usize
+    ensures { λ r. ⌜ r ≡ position (isPassed last false) (pathIn (now (p .entry)) .ring) ⌝ }
 {
     rows(p);
     let mut i: usize = 0;
     while i < RING {
         let s = sent(p, i);
-        if is_passed(s, at, overdue) {
+        if is_passed(s, last, false) {
             return i;
         }
         i += 1;
     }
     i
+}
+
+// The place of the first probe whose due has passed, or 8: what is before an instant is not after the one before it.
+fn first_passed(p: &[[u64; 4]; ROWS], at: u64, overdue: bool) -> usize
+    ensures { λ r. ⌜ r ≡ position (isPassed at overdue) (pathIn (now (p .entry)) .ring) ⌝ }
+{
+    rows(p);
+    if overdue {
+        if at == 0 {
+            return RING;
+        }
+        return first_due(p, at - 1);
+    }
+    first_due(p, at)
 }
 
 // The due that a probe gets in place of its own where data arrived after it was sent, unless that has passed too.

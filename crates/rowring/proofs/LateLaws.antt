@@ -1,14 +1,19 @@
 -- The late list of a slot's rows stored place by place.
 -- Assumes nothing.
 use Prim.Native.Nat.{ℕ}
-use mathlib.Core.Path.{_≡_, ap, _∙_}
+use mathlib.Core.Path.{_≡_, refl, ap, _∙_}
+use mathlib.Core.Bool.{false}
 use mathlib.Core.List.{List, [], _∷_}
+use borrow.Author.Tests.{eqb-false}
+use lib.Dec.{eqb}
 use lib.ListN.{length, getD, set}
+use lib.Seq.{getD-set-other}
 use Rattle.ring.specs.Ring.{noSent, remembered}
 use Rattle.ring.specs.declared.types.Sent.{Sent}
 use Rattle.ring.proofs.SweepLaws.{shifted}
 use Rattle.live.specs.Path.{withLate}
 use Rattle.live.specs.declared.types.Liveness.{Liveness}
+use Rattle.rows.specs.Parts.{moved}
 use Rattle.rows.specs.View.{pathIn}
 use Rattle.rows.specs.Says.{Says}
 use Rattle.rows.proofs.BlockLaws.{four, refill4}
@@ -38,10 +43,20 @@ module _ (a : List (List ℕ)) (n : length a ≡ 65) {b c d e : List (List ℕ)}
   late-stored l m i j o p =
       says-as stored (ap (λ (t : List Sent). withLate (pathIn a) t) ((λ q. i q ∷ j q ∷ o q ∷ p q ∷ []) ∙ four l noSent m))
 
-  -- one more, everything shifted one place
-  pub late-shifted : x ≡ getD (pathIn a .late) 1 noSent → y ≡ getD (pathIn a .late) 2 noSent → z ≡ getD (pathIn a .late) 3 noSent
-      → Says a e (withLate (pathIn a) (remembered (pathIn a .late) s))
-  late-shifted i j o =
-      says-as stored
-      (ap (λ (t : List Sent). withLate (pathIn a) t)
-      ((λ q. i q ∷ j q ∷ o q ∷ s ∷ []) ∙ shifted (pathIn a .late) noSent s (late-length a n)))
+-- a place that was not stored to
+other : {a b : List (List ℕ)} (i k : ℕ) (x : Sent) → Says a b (withLate (pathIn a) (set (pathIn a .late) i x)) → eqb k i ≡ false
+    → getD (pathIn b .late) k noSent ≡ getD (pathIn a .late) k noSent
+other {a} i k x s h =
+    ap (λ (v : Liveness). getD (v .late) k noSent) (s .path) ∙ getD-set-other (pathIn a .late) i k x noSent (eqb-false k i h)
+
+-- one more, everything moved one place
+pub late-shifted : (a : List (List ℕ)) (n : length a ≡ 65) {b c d e : List (List ℕ)} (s : Sent)
+    → Says a b (withLate (pathIn a) (moved (pathIn a .late) 1 0)) → Says b c (withLate (pathIn b) (moved (pathIn b .late) 2 1))
+    → Says c d (withLate (pathIn c) (moved (pathIn c .late) 3 2)) → Says d e (withLate (pathIn d) (set (pathIn d .late) 3 s))
+    → Says a e (withLate (pathIn a) (remembered (pathIn a .late) s))
+late-shifted a n s f g h k =
+    let j = other 0 2 _ f refl in
+    let o = other 1 3 _ g refl ∙ other 0 3 _ f refl in
+    says-as (stored a n s f g h k)
+    (ap (λ (t : List Sent). withLate (pathIn a) t)
+    ((λ q. getD (pathIn a .late) 1 noSent ∷ j q ∷ o q ∷ s ∷ []) ∙ shifted (pathIn a .late) noSent s (late-length a n)))

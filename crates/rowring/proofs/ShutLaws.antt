@@ -13,8 +13,10 @@ use Rattle.base.proofs.Cases.{on-order, cond-same}
 use Rattle.ring.specs.Ring.{isUsed, noSent, waiting, packed, takenOut, allCount, dropSince}
 use Rattle.ring.specs.declared.types.Ids.{Ids}
 use Rattle.ring.specs.declared.types.Sent.{Sent}
-use Rattle.live.specs.Path.{withRing}
+use Rattle.live.specs.Path.{withRing, withIds}
 use Rattle.live.specs.declared.types.Liveness.{Liveness}
+use Rattle.cells.specs.Cells.{withId}
+use Rattle.rows.specs.Parts.{moved}
 use Rattle.rows.specs.View.{pathIn}
 use Rattle.rows.specs.Says.{Says}
 use Rattle.rows.proofs.CloseLaws.{Closing, closing-start, closing-skip, closing-move, closing-end}
@@ -54,11 +56,11 @@ module _ {a b : List (List ℕ)} {w r : ℕ} (s : Shut a b w r) where
     shut-skip f = record { says = s .says; ring = closing-skip noSent (s .ring) h (ap isUsed (sym e) ∙ f); back = s .back }
 
     -- a waiting probe moves to the front
-    pub shut-move : {c : List (List ℕ)} → x .used ≡ true → Says b c (withRing (pathIn b) (set (pathIn b .ring) w x))
+    pub shut-move : {c : List (List ℕ)} → x .used ≡ true → Says b c (withRing (pathIn b) (moved (pathIn b .ring) r w))
         → Shut a c (w + 1) (r + 1)
     shut-move {c} f g =
         let l = pathIn b .ring in
-        let q : pathIn c .ring ≡ set l w (getD l r noSent) = ring-is g ∙ ap (λ (y : Sent). set l w y) e in
+        let q : pathIn c .ring ≡ set l w (getD l r noSent) = ring-is g in
         let z : drop (w + 1) l ≡ drop (w + 1) (pathIn a .ring) =
         sym (drop-drop 1 w l) ∙ ap (λ (y : List Sent). drop 1 y) (s .back) ∙ drop-drop 1 w (pathIn a .ring) in
         record {
@@ -151,7 +153,7 @@ module _ (m : Ids) (l : List Sent) where
   by-since (id.Some x) e {t} f g = rw e (sym f ∙ g)
 
   -- `since` is dropped
-  pub drop-some : {t : Bool} → t ≡ isDropped (m .since) l → t ≡ true
+  drop-some : {t : Bool} → t ≡ isDropped (m .since) l → t ≡ true
       → record { «next_id» = m .«next_id»; answered = m .answered; epoch = m .epoch; since = id.None } ≡ dropSince m l
   drop-some f g = rw (by-since (m .since) refl f g)
 
@@ -166,5 +168,19 @@ module _ (m : Ids) (l : List Sent) where
       rw y
 
   -- `since` stays
-  pub drop-none : {t : Bool} → t ≡ isDropped (m .since) l → t ≡ false → m ≡ dropSince m l
+  drop-none : {t : Bool} → t ≡ isDropped (m .since) l → t ≡ false → m ≡ dropSince m l
   drop-none f g = kept (m .since) refl f g
+
+module _ (a : List (List ℕ)) {m : Ids} {t : Bool} (o : m ≡ pathIn a .ids) (f : t ≡ isDropped (m .since) (pathIn a .ring)) where
+  -- whether there is a since to be dropped, by the rows
+  there : t ≡ isDropped (pathIn a .ids .since) (pathIn a .ring)
+  there = f ∙ ap (λ (z : Ids). isDropped (z .since) (pathIn a .ring)) o
+
+  -- none is stored for it
+  pub since-dropped : {b : List (List ℕ)} → t ≡ true → Says a b (withIds (pathIn a) (withId (pathIn a .ids) 3 id.None))
+      → Says a b (withIds (pathIn a) (dropSince (pathIn a .ids) (pathIn a .ring)))
+  since-dropped g s = says-as s (ap (λ (z : Ids). withIds (pathIn a) z) (drop-some (pathIn a .ids) (pathIn a .ring) there g))
+
+  -- or nothing is stored
+  pub since-left : t ≡ false → Says a a (withIds (pathIn a) (dropSince (pathIn a .ids) (pathIn a .ring)))
+  since-left g = says-none (ap (λ (z : Ids). withIds (pathIn a) z) (drop-none (pathIn a .ids) (pathIn a .ring) there g))

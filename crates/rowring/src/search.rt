@@ -1,6 +1,6 @@
 // Searches in the ring and the late list of a slot's rows.
 ghost use mathlib.Core.Path.{_≡_};
-ghost use Rattle.ring.specs.Ring.{firstFree, fineOf, allCount, dropSince, isProbe, found};
+ghost use Rattle.ring.specs.Ring.{firstFree, fineOf, allCount, isProbe, found};
 ghost use Rattle.rows.specs.View.{pathIn};
 ghost use Rattle.rowring.specs.Steps.{isDropped};
 use base::types::*;
@@ -51,33 +51,12 @@ fn all_count(p: &[[u64; 4]; ROWS], since: MaybeId) -> bool
 }
 
 // Whether there is a since to be dropped: there is one, and every waiting probe counts.
-fn is_dropped(p: &[[u64; 4]; ROWS], since: MaybeId) -> bool
+pub fn is_dropped(p: &[[u64; 4]; ROWS], since: MaybeId) -> bool
     ensures { λ r. ⌜ r ≡ isDropped since (pathIn (now (p .entry)) .ring) ⌝ }
 {
     match since {
         MaybeId::None => false,
         MaybeId::Some(id) => all_count(p, since),
-    }
-}
-
-// The identifiers before a send: since is dropped if every waiting probe counts.
-pub fn drop_since(p: &[[u64; 4]; ROWS], m: Ids) -> Ids
-    ensures { λ r. ⌜ r ≡ dropSince m (pathIn (now (p .entry)) .ring) ⌝ }
-{
-    let since = m.since;
-    if is_dropped(p, since) {
-        let next_id = m.next_id;
-        let answered = m.answered;
-        let epoch = m.epoch;
-        let none = MaybeId::None;
-        Ids {
-            next_id: next_id,
-            answered: answered,
-            epoch: epoch,
-            since: none,
-        }
-    } else {
-        m
     }
 }
 

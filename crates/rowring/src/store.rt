@@ -2,11 +2,13 @@
 // leaves all else.
 ghost use mathlib.Core.Path.{_≡_};
 ghost use lib.ListN.{length};
-ghost use Rattle.ring.specs.Ring.{maxWaiting, waiting, takenOut, remembered};
-ghost use Rattle.live.specs.Path.{withRing, withLate};
+ghost use Rattle.ring.specs.Ring.{maxWaiting, waiting, takenOut, remembered, dropSince};
+ghost use Rattle.live.specs.Path.{withRing, withLate, withIds};
 ghost use Rattle.rows.specs.View.{pathIn};
 ghost use Rattle.rows.specs.Says.{Says};
 ghost use Rattle.rowring.specs.Steps.{pressed, freedFrom};
+use crate::search::is_dropped;
+use base::types::MaybeId;
 use ring::types::*;
 use rows::probes::*;
 
@@ -20,10 +22,11 @@ fn press(p: &mut [[u64; 4]; ROWS]) -> usize
     let mut w: usize = 0;
     let mut r: usize = 0;
     while r < RING {
-        let s = sent(p, r);
+        let i = r;
+        let s = sent(p, i);
         r += 1;
         if s.used {
-            set_sent(p, w, s);
+            move_sent(p, i, w);
             w += 1;
         }
     }
@@ -64,13 +67,23 @@ pub fn remember(p: &mut [[u64; 4]; ROWS], s: Sent)
         (withLate (pathIn (now (p .entry))) (remembered (pathIn (now (p .entry)) .late) s)) ⌝ }
 {
     rows(p);
-    let b = late(p, 1);
-    let c = late(p, 2);
-    let d = late(p, 3);
-    set_late(p, 0, b);
-    set_late(p, 1, c);
-    set_late(p, 2, d);
+    move_late(p, 1, 0);
+    move_late(p, 2, 1);
+    move_late(p, 3, 2);
     set_late(p, 3, s);
+}
+
+// Drops since, before a send, if every waiting probe counts.
+pub fn drop_since(p: &mut [[u64; 4]; ROWS])
+    ensures { λ r. ⌜ Says (now (p .entry)) (now (p .exit)) (withIds (pathIn (now (p .entry)))
+        (dropSince (pathIn (now (p .entry)) .ids) (pathIn (now (p .entry)) .ring))) ⌝ }
+{
+    let m = ids(p);
+    let since = m.since;
+    if is_dropped(p, since) {
+        let none = MaybeId::None;
+        set_id(p, 3, none);
+    }
 }
 
 // The ring.

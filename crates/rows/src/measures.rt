@@ -5,15 +5,16 @@ ghost use lib.ListN.{set, getD};
 ghost use Rattle.rtt.specs.Samples.{noSample};
 ghost use Rattle.rtt.specs.Spans.{noSpan};
 ghost use Rattle.live.specs.Path.{withSizes, withTraffic, withEtx};
-ghost use Rattle.rows.specs.Parts.{withStop, withSamples, withSpans, withTrip};
+ghost use Rattle.rows.specs.Parts.{withProven, withSeek, withStop, withSamples, withSpans, withTrip};
 ghost use Rattle.rows.specs.View.{pathIn};
 ghost use Rattle.rows.specs.Says.{Says};
 use crate::probes::*;
-use base::types::MaybeTime;
+use base::types::*;
 use cells::measures::*;
+use cells::words::*;
 use live::types::Traffic;
 use rtt::types::*;
-use seek::types::Sizes;
+use seek::types::*;
 use stop::types::MaybeStop;
 
 // The sizes with the search.
@@ -35,6 +36,36 @@ pub fn set_sizes(p: &mut [[u64; 4]; ROWS], s: Sizes)
     let b = t.b;
     p[16] = a;
     p[17] = b;
+}
+
+// Stores the proven size.
+pub fn set_proven(p: &mut [[u64; 4]; ROWS], m: MaybeLen)
+    ensures { λ r. ⌜ Says (now (p .entry)) (now (p .exit)) (withProven (pathIn (now (p .entry))) m) ⌝ }
+{
+    rows(p);
+    let t = p[17];
+    let w = len_word(m);
+    let v = put(t, 1, w);
+    p[17] = v;
+}
+
+// Stores the search.
+pub fn set_seek(p: &mut [[u64; 4]; ROWS], s: Seek)
+    ensures { λ r. ⌜ Says (now (p .entry)) (now (p .exit)) (withSeek (pathIn (now (p .entry))) s) ⌝ }
+{
+    rows(p);
+    let u = p[17];
+    let none = MaybeLen::None;
+    let bare = Sizes {
+        seek: s,
+        proven: none,
+    };
+    let t = sizes_rows(bare);
+    let a = t.a;
+    let b = t.b;
+    let v = put(u, 0, b[0]);
+    p[16] = a;
+    p[17] = v;
 }
 
 // Stores the stop.
@@ -63,11 +94,13 @@ pub fn set_traffic(p: &mut [[u64; 4]; ROWS], s: Traffic)
     ensures { λ r. ⌜ Says (now (p .entry)) (now (p .exit)) (withTraffic (pathIn (now (p .entry))) s) ⌝ }
 {
     rows(p);
+    let u = p[20];
     let t = traffic_rows(s);
     let a = t.a;
     let b = t.b;
+    let v = first_two(b, u);
     p[19] = a;
-    p[20] = b;
+    p[20] = v;
 }
 
 // When the last session datagram came.
@@ -91,8 +124,10 @@ pub fn set_etx(p: &mut [[u64; 4]; ROWS], x: f64)
     ensures { λ r. ⌜ Says (now (p .entry)) (now (p .exit)) (withEtx (pathIn (now (p .entry))) x) ⌝ }
 {
     rows(p);
-    let t = etx_row(x);
-    p[22] = t;
+    let t = p[22];
+    let u = etx_row(x);
+    let v = put(t, 0, u[0]);
+    p[22] = v;
 }
 
 // The latest round trip.
@@ -108,8 +143,10 @@ pub fn set_trip(p: &mut [[u64; 4]; ROWS], m: MaybeTime)
     ensures { λ r. ⌜ Says (now (p .entry)) (now (p .exit)) (withTrip (pathIn (now (p .entry))) m) ⌝ }
 {
     rows(p);
-    let t = time_row(m);
-    p[23] = t;
+    let t = p[23];
+    let u = time_row(m);
+    let v = first_two(u, t);
+    p[23] = v;
 }
 
 // The sample at a place of the window.

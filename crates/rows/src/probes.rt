@@ -3,13 +3,15 @@
 ghost use mathlib.Core.Path.{_≡_};
 ghost use lib.ListN.{length, set, getD};
 ghost use Rattle.ring.specs.Ring.{noSent};
+ghost use Rattle.cells.specs.Cells.{withId};
 ghost use Rattle.live.specs.Path.{withRing, withLate, withIds, withLadder, withMisses};
-ghost use Rattle.rows.specs.Parts.{withQuiet};
+ghost use Rattle.rows.specs.Parts.{withQuiet, moved};
 ghost use Rattle.rows.specs.View.{pathIn};
 ghost use Rattle.rows.specs.Says.{Says};
-use base::types::MaybeTime;
+use base::types::*;
 use cells::measures::*;
 use cells::probes::*;
+use cells::words::*;
 use ring::types::*;
 use seek::types::Ladder;
 
@@ -55,6 +57,24 @@ pub fn set_sent(p: &mut [[u64; 4]; ROWS], i: usize, s: Sent)
     p[i] = t;
 }
 
+// Stores the probe at a place of the ring at another.
+pub fn move_sent(p: &mut [[u64; 4]; ROWS], from: usize, to: usize)
+    ensures { λ r. ⌜ Says (now (p .entry)) (now (p .exit))
+        (withRing (pathIn (now (p .entry))) (moved (pathIn (now (p .entry)) .ring) from to)) ⌝ }
+{
+    rows(p);
+    if RING <= from {
+        let free = ring::ring::none();
+        set_sent(p, to, free);
+        return;
+    }
+    if RING <= to {
+        return;
+    }
+    let t = p[from];
+    p[to] = t;
+}
+
 // The probe at a place of the late list.
 pub fn late(p: &[[u64; 4]; ROWS], i: usize) -> Sent
     ensures { λ r. ⌜ r ≡ getD (pathIn (now (p .entry)) .late) i noSent ⌝ }
@@ -80,6 +100,24 @@ pub fn set_late(p: &mut [[u64; 4]; ROWS], i: usize, s: Sent)
     p[8 + i] = t;
 }
 
+// Stores the probe at a place of the late list at another.
+pub fn move_late(p: &mut [[u64; 4]; ROWS], from: usize, to: usize)
+    ensures { λ r. ⌜ Says (now (p .entry)) (now (p .exit))
+        (withLate (pathIn (now (p .entry))) (moved (pathIn (now (p .entry)) .late) from to)) ⌝ }
+{
+    rows(p);
+    if LATE <= from {
+        let free = ring::ring::none();
+        set_late(p, to, free);
+        return;
+    }
+    if LATE <= to {
+        return;
+    }
+    let t = p[8 + from];
+    p[8 + to] = t;
+}
+
 // The identifiers.
 pub fn ids(p: &[[u64; 4]; ROWS]) -> Ids
     ensures { λ r. ⌜ r ≡ pathIn (now (p .entry)) .ids ⌝ }
@@ -97,6 +135,18 @@ pub fn set_ids(p: &mut [[u64; 4]; ROWS], m: Ids)
     p[12] = t;
 }
 
+// Stores one of the identifiers, by its place in their row: next, answered, epoch, since.
+pub fn set_id(p: &mut [[u64; 4]; ROWS], k: usize, m: MaybeId)
+    ensures { λ r. ⌜ Says (now (p .entry)) (now (p .exit))
+        (withIds (pathIn (now (p .entry))) (withId (pathIn (now (p .entry)) .ids) k m)) ⌝ }
+{
+    rows(p);
+    let t = p[12];
+    let w = id_word(m);
+    let u = put(t, k, w);
+    p[12] = u;
+}
+
 // The silence clock.
 pub fn quiet(p: &[[u64; 4]; ROWS]) -> MaybeTime
     ensures { λ r. ⌜ r ≡ pathIn (now (p .entry)) .silence .quiet ⌝ }
@@ -110,8 +160,10 @@ pub fn set_quiet(p: &mut [[u64; 4]; ROWS], m: MaybeTime)
     ensures { λ r. ⌜ Says (now (p .entry)) (now (p .exit)) (withQuiet (pathIn (now (p .entry))) m) ⌝ }
 {
     rows(p);
-    let t = time_row(m);
-    p[13] = t;
+    let t = p[13];
+    let u = time_row(m);
+    let v = first_two(u, t);
+    p[13] = v;
 }
 
 // The ladder.
@@ -127,8 +179,10 @@ pub fn set_ladder(p: &mut [[u64; 4]; ROWS], l: Ladder)
     ensures { λ r. ⌜ Says (now (p .entry)) (now (p .exit)) (withLadder (pathIn (now (p .entry))) l) ⌝ }
 {
     rows(p);
-    let t = ladder_row(l);
-    p[18] = t;
+    let t = p[18];
+    let u = ladder_row(l);
+    let v = first_two(u, t);
+    p[18] = v;
 }
 
 // The misses.
@@ -144,6 +198,8 @@ pub fn set_misses(p: &mut [[u64; 4]; ROWS], n: u32)
     ensures { λ r. ⌜ Says (now (p .entry)) (now (p .exit)) (withMisses (pathIn (now (p .entry))) n) ⌝ }
 {
     rows(p);
-    let t = misses_row(n);
-    p[21] = t;
+    let t = p[21];
+    let u = misses_row(n);
+    let v = put(t, 0, u[0]);
+    p[21] = v;
 }

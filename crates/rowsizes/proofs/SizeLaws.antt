@@ -32,24 +32,14 @@ use Rattle.live.specs.declared.types.Answer.the-variants as answer
 use Rattle.rules.specs.Rules.{turn, turnBy, searched}
 use Rattle.rules.specs.declared.types.Event.{Event}
 use Rattle.rules.specs.declared.types.Label.{Label}
-use Rattle.rules.specs.declared.types.Reply.{Reply}
 use Rattle.rules.specs.declared.types.Reply.the-variants as reply
 use Rattle.rules.specs.declared.types.Turn.{Turn}
-use Rattle.cells.specs.Cells.{labelIn}
+use Rattle.cells.specs.Cells.{labelIn, withId}
+use Rattle.rows.specs.Parts.{withProven, withSeek}
 use Rattle.rows.specs.View.{pathIn, slotIn}
 use Rattle.rows.specs.Says.{Says, Turns}
-use Rattle.rows.proofs.SaysLaws.{says-then, says-as, turns-by, turns-none}
+use Rattle.rows.proofs.SaysLaws.{says-then, says-as, says-after, turns-by, turns-none, turns-as}
 use Rattle.rowsizes.specs.Settles.{Settles}
-
--- the turn by another name
-turns-as : {a b : List (List ℕ)} {x : Reply} {t u : Turn} → Turns a b x t → t ≡ u → Turns a b x u
-turns-as h e =
-    record {
-      answer = h .answer ∙ ap (λ (z : Turn). z .reply) e;
-      slot = h .slot ∙ ap (λ (z : Turn). z .slot) e;
-      coded = h .coded;
-      left = h .left;
-    }
 
 -- ---- prove
 
@@ -67,13 +57,13 @@ module _ (a : List (List ℕ)) {n : ℕ} where
 
   -- a length that is proven
   pub prove-made : {b : List (List ℕ)} {s : Sizes} {d : Proving} → n ≤ 65535 → 27 ≤ n → s ≡ pathIn a .sizes
-      → d ≡ provenSizes s n → Says a b (withSizes (pathIn a) (d .sizes))
+      → d ≡ provenSizes s n → Says a b (withProven (pathIn a) (d .sizes .proven))
       → Turns a b reply.Nothing (turn (slotIn a) (proveOf (pathIn a) n .path) reply.Nothing)
   unfolding proveOf
   prove-made {b} {s} {d} h k e f w =
       let z : d ≡ provenSizes (pathIn a .sizes) n = f ∙ ap (λ (x : Sizes). provenSizes x n) e in
       turns-by
-      (says-as w (rw (le-ltb 65535 n h, le-ltb n 27 k) (ap (λ (x : Proving). withSizes (pathIn a) (x .sizes)) z)))
+      (says-as w (rw (le-ltb 65535 n h, le-ltb n 27 k) (ap (λ (x : Proving). withProven (pathIn a) (x .sizes .proven)) z)))
       refl refl
 
 -- ---- search
@@ -137,9 +127,12 @@ module _ (a : List (List ℕ)) (e : Event) {l : Label} (f : l ≡ slotIn a .labe
     -- the size that is proposed is sent
     pub search-sent : {b c : List (List ℕ)} {n id : ℕ} {o i : Ids} {t : Sizes} → m ≡ len.Some n → n ≤ 65535
         → o ≡ pathIn a .ids → id ≡ takenOf (o .«next_id») (e .id) → i ≡ nextIds o id
-        → t ≡ sentSearch s (e .now) n id → Says a b (withIds (pathIn a) i) → Says b c (withSizes (pathIn b) t)
+        → t ≡ sentSearch s (e .now) n id → Says a b (withIds (pathIn a) (withId (pathIn a .ids) 0 (i .«next_id»)))
+        → Says b c (withSizes (pathIn b) t)
         → Turns a c (reply.Id id) (sought (seekSizeOf (pathIn a) (slotIn a .label .full) (e .now)))
-    search-sent {b} {c} {n} {id} {o} {i} {t} z v q r w x y u =
+    search-sent {b} {c} {n} {id} {o} {i} {t} z v q r w x y₀ u =
+        let y : Says a b (withIds (pathIn a) i) =
+        says-after 0 (λ (k : Ids). k .«next_id») (w ∙ ap (λ (k : Ids). nextIds k id) q) refl y₀ in
         let r′ : id ≡ takenOf (pathIn a .ids .«next_id») (e .id) =
         r ∙ ap (λ (j : Ids). takenOf (j .«next_id») (e .id)) q in
         let w′ : i ≡ nextIds (pathIn a .ids) (takenOf (pathIn a .ids .«next_id») (e .id)) =
@@ -210,19 +203,21 @@ module _ (a : List (List ℕ)) (now timeout gap : ℕ) where
 
 -- the four parts stored
 pub fresh-made : {a b c d f : List (List ℕ)} {s t : Sizes} {o i : Ids} → s ≡ pathIn a .sizes → o ≡ pathIn a .ids
-    → i ≡ freshIds o → t ≡ freshSizes s → Says a b (withIds (pathIn a) i) → Says b c (withMisses (pathIn b) 0)
-    → Says c d (withSizes (pathIn c) t)
+    → i ≡ freshIds o → t ≡ freshSizes s → Says a b (withIds (pathIn a) (withId (pathIn a .ids) 2 (i .epoch)))
+    → Says b c (withMisses (pathIn b) 0)
+    → Says c d (withSeek (pathIn c) (t .seek))
     → Says d f (withLadder (pathIn d) (record { last = len.None; fallen = false }))
     → Turns a f reply.Nothing (turn (slotIn a) (freshOf (pathIn a)) reply.Nothing)
-fresh-made {a} {b} {c} {d} {f} {s} {t} {o} {i} g q r w x y u v =
+fresh-made {a} {b} {c} {d} {f} {s} {t} {o} {i} g q r w x₀ y u v =
+    let x : Says a b (withIds (pathIn a) i) = says-after 2 (λ (k : Ids). k .epoch) (r ∙ ap freshIds q) refl x₀ in
     let none : Ladder = record { last = len.None; fallen = false } in
-    let e : pathIn d ≡ withSizes (withMisses (withIds (pathIn a) i) 0) t =
-    u .path ∙ ap (λ (p : Liveness). withSizes p t) (y .path ∙ ap (λ (p : Liveness). withMisses p 0) (x .path)) in
+    let e : pathIn d ≡ withSeek (withMisses (withIds (pathIn a) i) 0) (t .seek) =
+    u .path ∙ ap (λ (p : Liveness). withSeek p (t .seek)) (y .path ∙ ap (λ (p : Liveness). withMisses p 0) (x .path)) in
     turns-by
     (says-as (says-then (says-then (says-then x y) u) v)
     (ap (λ (p : Liveness). withLadder p none) e
     ∙ (λ j.
-    withLadder (withSizes (withMisses (withIds (pathIn a) ((r ∙ ap freshIds q) j)) 0) ((w ∙ ap freshSizes g) j)) none)))
+    withLadder (withSeek (withMisses (withIds (pathIn a) ((r ∙ ap freshIds q) j)) 0) ((w ∙ ap freshSizes g) j .seek)) none)))
     refl
     refl
 

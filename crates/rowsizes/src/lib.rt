@@ -26,8 +26,9 @@ pub fn prove(p: &mut [[u64; 4]; ROWS], e: Event) -> Reply
     }
     let old = sizes(p);
     let proving = seek::search::prove(old, len as u16);
-    let proven = proving.sizes;
-    set_sizes(p, proven);
+    let after = proving.sizes;
+    let proven = after.proven;
+    set_proven(p, proven);
     Reply::Nothing
 }
 
@@ -51,8 +52,9 @@ pub fn search(p: &mut [[u64; 4]; ROWS], e: Event) -> Reply
     let next = before.next_id;
     let id = ring::ids::taken(next, e.id);
     let after = ring::ids::next_ids(before, id);
+    let later = after.next_id;
     let sent = seek::search::seek_send(old, e.now, len, id);
-    set_ids(p, after);
+    set_id(p, 0, later);
     set_sizes(p, sent);
     Reply::Id(id)
 }
@@ -89,15 +91,17 @@ pub fn fresh(p: &mut [[u64; 4]; ROWS]) -> Reply
     let old = sizes(p);
     let before = ids(p);
     let after = ring::ids::fresh_ids(before);
+    let epoch = after.epoch;
     let again = seek::search::fresh_sizes(old);
+    let start = again.seek;
     let none = MaybeLen::None;
     let ladder = Ladder {
         last: none,
         fallen: false,
     };
-    set_ids(p, after);
+    set_id(p, 2, epoch);
     set_misses(p, 0);
-    set_sizes(p, again);
+    set_seek(p, start);
     set_ladder(p, ladder);
     Reply::Nothing
 }

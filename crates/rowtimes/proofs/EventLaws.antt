@@ -5,10 +5,16 @@ use mathlib.Core.Path.{_≡_, refl, ap, sym, _∙_}
 use mathlib.Core.Bool.{Bool, true, false}
 use mathlib.Core.List.{List}
 use borrow.Author.Tests.{lt-ltb, le-ltb, le-leb, lt-leb}
-use lib.Ieee.{Float}
-use lib.ListN.{getD, set}
+use lib.Dec.{T}
+use lib.Ieee.{Float, nan, inf, fin, binary64, fits, ofBits, toBits, le, isNan}
+use lib.ListN.{length, getD, set}
 use Rattle.base.specs.declared.types.MaybeTime.the-variants as time
-use Rattle.etx.specs.Etx.{foldOf}
+use Rattle.etx.specs.Etx.{one, foldOf}
+use Rattle.etx.proofs.WithinLaws.{fold-within}
+use Rattle.image.specs.Image.{etxBits}
+use Rattle.cells.specs.Cells.{withWord}
+use Rattle.cells.specs.Code.{etxRow}
+use Rattle.cells.proofs.RowLaws.{etx-says}
 use Rattle.rtt.specs.Samples.{keptSamples, samplePlace, newSample, withSample}
 use Rattle.rtt.specs.Spans.{noSpan, keptSpans, newestSpan, spanPlace, joinsOf, joinedOf, newSpan, openedOf, enteredOf}
 use Rattle.rtt.specs.Spans.{spanOf}
@@ -20,9 +26,9 @@ use Rattle.live.specs.declared.types.Traffic.{Traffic}
 use Rattle.rules.specs.Rules.{turn}
 use Rattle.rules.specs.declared.types.Reply.the-variants as reply
 use Rattle.rows.specs.Parts.{withSamples, withSpans, withTrip}
-use Rattle.rows.specs.View.{pathIn, slotIn}
+use Rattle.rows.specs.View.{row, pathIn, slotIn}
 use Rattle.rows.specs.Says.{Says, Turns}
-use Rattle.rows.proofs.SaysLaws.{says-then, says-as, turns-by, turns-none}
+use Rattle.rows.proofs.SaysLaws.{says-then, says-as, put-etx, turns-by, turns-none}
 
 -- ---- data
 
@@ -67,6 +73,25 @@ module _ (a : List (List ℕ)) {b : List (List ℕ)} (n now : ℕ) {t : Traffic}
       refl refl
 
 -- ---- fold
+
+-- what is at least 1 is no NaN
+real : (x : Float) → le one x ≡ true → isNan x ≡ false
+unfolding le isNan ofBits
+real nan h = sym h
+real (inf s) h = refl
+real (fin s m k) h = refl
+
+-- what a fold gives is no NaN
+pub fold-real : (on : Bool) (x : Float) {y : Float} → y ≡ foldOf x on → isNan y ≡ false
+fold-real on x e = ap isNan e ∙ real (foldOf x on) (fold-within x on .low)
+
+-- its pattern stored
+pub etx-stored : (a : List (List ℕ)) → length a ≡ 65 → {x : Float} {r : List ℕ} → T (fits binary64 x) → isNan x ≡ false
+    → r ≡ withWord (row a 22) 0 (toBits binary64 x) → Says a (set a 22 r) (withEtx (pathIn a) x)
+unfolding etxRow
+etx-stored a n {x} h e f =
+    let z : etxBits x ≡ toBits binary64 x = rw e in
+    put-etx a n {u = etxRow x} (refl, etx-says x h) (f ∙ ap (λ (w : ℕ). withWord (row a 22) 0 w) (sym z))
 
 -- the ETX stored
 pub fold-made : {a b : List (List ℕ)} (on : Bool) {x y : Float} → x ≡ pathIn a .etx → y ≡ foldOf x on

@@ -8,7 +8,7 @@ use base::limits::*;
 use base::types::*;
 use live::types::Traffic;
 use rows::measures::*;
-use rows::probes::ROWS;
+use rows::probes::*;
 use rules::types::*;
 
 pub mod horizon;
@@ -43,14 +43,18 @@ pub fn received(p: &mut [[u64; 4]; ROWS], e: Event) -> Reply
     Reply::Nothing
 }
 
-// Fold.
+// Fold: what it gives is no NaN, so its pattern is stored as it is.
 pub fn fold(p: &mut [[u64; 4]; ROWS], delivered: bool) -> Reply
     ensures { λ r. ⌜ Turns (now (p .entry)) (now (p .exit)) r
         (turn (slotIn (now (p .entry))) (foldedOf (pathIn (now (p .entry))) delivered) Nothing) ⌝ }
 {
     let old = etx(p);
     let folded = etx::fold(old, delivered);
-    set_etx(p, folded);
+    rows(p);
+    let t = p[22];
+    let bits = f64::to_bits(folded);
+    let u = cells::words::put(t, 0, bits);
+    p[22] = u;
     Reply::Nothing
 }
 

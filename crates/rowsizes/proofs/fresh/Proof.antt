@@ -17,20 +17,20 @@ fresh-ids-requires c κs = search needs
 fresh-sizes-requires : tie.Need-fresh-sizes-requires
 fresh-sizes-requires c κs = search needs
 
-set-ids-requires : tie.Need-set-ids-requires
-set-ids-requires c κs = search needs
+set-id-requires : tie.Need-set-id-requires
+set-id-requires c κs = search needs
 
 set-misses-requires : tie.Need-set-misses-requires
 set-misses-requires c κs = search needs
 
-set-sizes-requires : tie.Need-set-sizes-requires
-set-sizes-requires c κs = search needs
+set-seek-requires : tie.Need-set-seek-requires
+set-seek-requires c κs = search needs
 
 set-ladder-requires : tie.Need-set-ladder-requires
 set-ladder-requires c κs = search needs
 
 returns : tie.Need-returns
-returns c = fresh-made (c .before .before .before .before .before .before .before .before .before .before .before .before .sizes .ensures) (c .before .before .before .before .before .before .before .before .before .before .ids .ensures) (c .before .before .before .before .before .before .before .before .before .fresh-ids .ensures) (c .before .before .before .before .before .before .before .before .fresh-sizes .ensures) (c .before .before .before .before .before .before .set-ids .ensures) (c .before .before .before .before .set-misses .ensures) (c .before .before .set-sizes .ensures) (c .set-ladder .ensures)
+returns c = fresh-made (c .before .before .before .before .before .before .before .before .before .before .before .before .before .sizes .ensures) (c .before .before .before .before .before .before .before .before .before .before .before .ids .ensures) (c .before .before .before .before .before .before .before .before .before .before .fresh-ids .ensures) (c .before .before .before .before .before .before .before .before .before .fresh-sizes .ensures) (c .before .before .before .before .before .before .set-id .ensures) (c .before .before .before .before .set-misses .ensures) (c .before .before .set-seek .ensures) (c .set-ladder .ensures)
 
 pub fresh-spec : {M : Type 1} → statement M
 fresh-spec =
@@ -40,8 +40,8 @@ fresh-spec =
     ids-requires
     fresh-ids-requires
     fresh-sizes-requires
-    set-ids-requires
+    set-id-requires
     set-misses-requires
-    set-sizes-requires
+    set-seek-requires
     set-ladder-requires
     returns)

@@ -20,11 +20,11 @@ cast-prove c = search needs
 prove-requires : tie.Need-prove-requires
 prove-requires c κs = search needs
 
-set-sizes-requires : tie.Need-set-sizes-requires
-set-sizes-requires c κs = search needs
+set-proven-requires : tie.Need-set-proven-requires
+set-proven-requires c κs = search needs
 
 returns-3 : tie.Need-returns-3
-returns-3 c = prove-made _ (c .before .before .before .before .before .before .before .if1 .left) (c .before .before .before .before .before .before .if2 .left) (c .before .before .before .before .sizes .ensures) (c .before .before .before .prove .ensures) (c .set-sizes .ensures)
+returns-3 c = prove-made _ (c .before .before .before .before .before .before .before .if1 .left) (c .before .before .before .before .before .before .if2 .left) (c .before .before .before .before .sizes .ensures) (c .before .before .before .prove .ensures) (c .set-proven .ensures)
 
 pub prove-spec : {M : Type 1} → statement M
 prove-spec =
@@ -35,5 +35,5 @@ prove-spec =
     sizes-requires
     cast-prove
     prove-requires
-    set-sizes-requires
+    set-proven-requires
     returns-3)

@@ -38,14 +38,14 @@ next-ids-requires c κs = search needs
 seek-send-requires : tie.Need-seek-send-requires
 seek-send-requires c κs = search needs
 
-set-ids-requires : tie.Need-set-ids-requires
-set-ids-requires c κs = search needs
+set-id-requires : tie.Need-set-id-requires
+set-id-requires c κs = search needs
 
 set-sizes-requires : tie.Need-set-sizes-requires
 set-sizes-requires c κs = search needs
 
 returns-3 : tie.Need-returns-3
-returns-3 c = search-sent _ (c .before .before .before .before .before .before .before .before .before .before .before .before .before .before .before .before .before .before .args .e) (c .before .before .before .before .before .before .before .before .before .before .before .before .before .before .before .before .label .ensures) (c .before .before .before .before .before .before .before .before .before .before .before .before .before .before .before .if1 .left) (c .before .before .before .before .before .before .before .before .before .before .before .before .before .sizes .ensures) (c .before .before .before .before .before .before .before .before .before .before .before .before .seek-size .ensures) (c .before .before .before .before .before .before .before .before .before .before .proposal .given .1) (search needs) (c .before .before .before .before .before .before .before .ids .ensures) (c .before .before .before .before .before .before .taken .ensures) (c .before .before .before .before .before .next-ids .ensures) (c .before .before .before .before .seek-send .ensures) (c .before .before .set-ids .ensures) (c .set-sizes .ensures)
+returns-3 c = search-sent _ (c .before .before .before .before .before .before .before .before .before .before .before .before .before .before .before .before .before .before .args .e) (c .before .before .before .before .before .before .before .before .before .before .before .before .before .before .before .before .label .ensures) (c .before .before .before .before .before .before .before .before .before .before .before .before .before .before .before .if1 .left) (c .before .before .before .before .before .before .before .before .before .before .before .before .before .sizes .ensures) (c .before .before .before .before .before .before .before .before .before .before .before .before .seek-size .ensures) (c .before .before .before .before .before .before .before .before .before .before .proposal .given .1) (search needs) (c .before .before .before .before .before .before .before .ids .ensures) (c .before .before .before .before .before .before .taken .ensures) (c .before .before .before .before .before .next-ids .ensures) (c .before .before .before .before .seek-send .ensures) (c .before .before .set-id .ensures) (c .set-sizes .ensures)
 
 pub search-spec : {M : Type 1} → statement M
 search-spec =
@@ -62,6 +62,6 @@ search-spec =
     taken-requires
     next-ids-requires
     seek-send-requires
-    set-ids-requires
+    set-id-requires
     set-sizes-requires
     returns-3)

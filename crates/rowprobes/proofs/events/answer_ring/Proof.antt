@@ -17,14 +17,14 @@ answered-ids-requires c κs = search needs
 take-out-requires : tie.Need-take-out-requires
 take-out-requires c κs = search needs
 
-set-ids-requires : tie.Need-set-ids-requires
-set-ids-requires c κs = search needs
+set-id-requires : tie.Need-set-id-requires
+set-id-requires c κs = search needs
 
 set-misses-requires : tie.Need-set-misses-requires
 set-misses-requires c κs = search needs
 
 returns : tie.Need-returns
-returns c = answer-in-time (c .before .before .before .before .before .before .before .before .before .before .before .before .args .p .now) _ (c .before .before .before .before .before .before .before .before .before .before .find .ensures) (c .before .before .before .before .before .before .before .before .before .if1 .taken) (c .before .before .before .before .before .before .before .ids .ensures) (c .before .before .before .before .before .before .answered-ids .ensures) (c .before .before .before .before .take-out .ensures) (c .before .before .set-ids .ensures) (c .set-misses .ensures)
+returns c = answer-in-time (c .before .before .before .before .before .before .before .before .before .before .before .before .args .p .now) _ (c .before .before .before .before .before .before .before .before .before .before .find .ensures) (c .before .before .before .before .before .before .before .before .before .if1 .taken) (c .before .before .before .before .before .before .before .ids .ensures) (c .before .before .before .before .before .before .answered-ids .ensures) (c .before .before .before .before .take-out .ensures) (c .before .before .set-id .ensures) (c .set-misses .ensures)
 
 find-late-requires : tie.Need-find-late-requires
 find-late-requires c κs = search needs
@@ -49,7 +49,7 @@ answer-ring-spec =
     ids-requires
     answered-ids-requires
     take-out-requires
-    set-ids-requires
+    set-id-requires
     set-misses-requires
     returns
     find-late-requires

@@ -17,11 +17,11 @@ returns-2 c = send-full (c .before .before .before .before .before .args .p .now
 cast-short : tie.Need-cast-short
 cast-short c = search needs
 
-ids-requires : tie.Need-ids-requires
-ids-requires c κs = search needs
-
 drop-since-requires : tie.Need-drop-since-requires
 drop-since-requires c κs = search needs
+
+ids-requires : tie.Need-ids-requires
+ids-requires c κs = search needs
 
 taken-requires : tie.Need-taken-requires
 taken-requires c κs = search needs
@@ -41,8 +41,8 @@ ladder-requires c κs = search needs
 set-sent-requires : tie.Need-set-sent-requires
 set-sent-requires c κs = search needs
 
-set-ids-requires : tie.Need-set-ids-requires
-set-ids-requires c κs = search needs
+set-id-requires : tie.Need-set-id-requires
+set-id-requires c κs = search needs
 
 set-quiet-requires : tie.Need-set-quiet-requires
 set-quiet-requires c κs = search needs
@@ -51,7 +51,7 @@ set-ladder-requires : tie.Need-set-ladder-requires
 set-ladder-requires c κs = search needs
 
 returns-3 : tie.Need-returns-3
-returns-3 c = send-made (c .before .before .before .before .before .before .before .before .before .before .before .before .before .before .before .before .before .before .before .before .before .before .before .before .before .args .p .now) _ _ _ _ (c .before .before .before .before .before .before .before .before .before .before .before .before .before .before .before .before .before .before .before .before .before .before .before .if1 .left) (c .before .before .before .before .before .before .before .before .before .before .before .before .before .before .before .before .before .before .before .before .before .first-free .ensures) (c .before .before .before .before .before .before .before .before .before .before .before .before .before .before .before .before .before .before .before .before .if2 .left) (c .before .before .before .before .before .before .before .before .before .before .before .before .before .before .before .before .before .ids .ensures) (c .before .before .before .before .before .before .before .before .before .before .before .before .before .before .before .drop-since .ensures) (c .before .before .before .before .before .before .before .before .before .before .before .before .before .before .taken .ensures) (c .before .before .before .before .before .before .before .before .before .before .before .before .before .next-ids .ensures) (c .before .before .before .before .before .before .before .before .before .before .before .quiet .ensures) (c .before .before .before .before .before .before .before .before .before .before .first-of .ensures) (c .before .before .before .before .before .before .before .before .ladder .ensures) (c .before .before .before .before .before .before .set-sent .ensures) (c .before .before .before .before .set-ids .ensures) (c .before .before .set-quiet .ensures) (c .set-ladder .ensures)
+returns-3 c = send-made (c .before .before .before .before .before .before .before .before .before .before .before .before .before .before .before .before .before .before .before .before .before .before .before .before .before .args .p .now) _ _ _ _ (c .before .before .before .before .before .before .before .before .before .before .before .before .before .before .before .before .before .before .before .before .before .before .before .if1 .left) (c .before .before .before .before .before .before .before .before .before .before .before .before .before .before .before .before .before .before .before .before .before .first-free .ensures) (c .before .before .before .before .before .before .before .before .before .before .before .before .before .before .before .before .before .before .before .before .if2 .left) (c .before .before .before .before .before .before .before .before .before .before .before .before .before .before .before .before .before .drop-since .ensures) (c .before .before .before .before .before .before .before .before .before .before .before .before .before .before .before .ids .ensures) (c .before .before .before .before .before .before .before .before .before .before .before .before .before .before .taken .ensures) (c .before .before .before .before .before .before .before .before .before .before .before .before .before .next-ids .ensures) (c .before .before .before .before .before .before .before .before .before .before .before .quiet .ensures) (c .before .before .before .before .before .before .before .before .before .before .first-of .ensures) (c .before .before .before .before .before .before .before .before .ladder .ensures) (c .before .before .before .before .before .before .set-sent .ensures) (c .before .before .before .before .set-id .ensures) (c .before .before .set-quiet .ensures) (c .set-ladder .ensures)
 
 pub probe-spec : {M : Type 1} → statement M
 probe-spec =
@@ -61,15 +61,15 @@ probe-spec =
     first-free-requires
     returns-2
     cast-short
-    ids-requires
     drop-since-requires
+    ids-requires
     taken-requires
     next-ids-requires
     quiet-requires
     first-of-requires
     ladder-requires
     set-sent-requires
-    set-ids-requires
+    set-id-requires
     set-quiet-requires
     set-ladder-requires
     returns-3)

@@ -11,11 +11,11 @@ ids-requires c κs = search needs
 thawed-ids-requires : tie.Need-thawed-ids-requires
 thawed-ids-requires c κs = search needs
 
-set-ids-requires : tie.Need-set-ids-requires
-set-ids-requires c κs = search needs
+set-id-requires : tie.Need-set-id-requires
+set-id-requires c κs = search needs
 
 returns : tie.Need-returns
-returns c = thaw-made (c .before .before .before .ids .ensures) (c .before .before .thawed-ids .ensures) (c .set-ids .ensures)
+returns c = thaw-made (c .before .before .before .ids .ensures) (c .before .before .thawed-ids .ensures) (c .set-id .ensures)
 
 pub thaw-spec : {M : Type 1} → statement M
-thaw-spec = tie.close (tie.spec ids-requires thawed-ids-requires set-ids-requires returns)
+thaw-spec = tie.close (tie.spec ids-requires thawed-ids-requires set-id-requires returns)

@@ -1,60 +1,42 @@
 -- `rowprobes::lapse::first_passed` meets its contract.
 -- Assumes nothing.
-use borrow.Author.Needs.{needs}
-use Prim.Native.Nat.{_-_}
-use mathlib.Core.Path.{sym, ap, _∙_}
 use Rattle.rows.specs.View.{pathIn}
-use Rattle.base.proofs.SeqLaws.{Searched, searched-start, searched-here, searched-next, searched-end}
+use mathlib.Core.Path.{_∙_}
 use Rattle.rows.proofs.ViewLaws.{ring-length}
-use Rattle.ring.specs.Lapse.{isPassed}
+use Rattle.rowprobes.proofs.ScanLaws.{none-before, due-before}
+use borrow.Author.Needs.{needs}
 use Rattle.rowprobes.proofs.lapse.first_passed.Statement.{statement}
 use Rattle.rowprobes.proofs.lapse.first_passed.Tie as tie
 
-abbrev Inv-loop : tie.InvT-loop
-Inv-loop p at overdue i₀ i = Searched (isPassed at overdue) (pathIn p .ring) 8 i
-
-abbrev μ-loop : tie.MeasureT-loop
-μ-loop p at overdue i₀ i = 8 - i
-
-rows-requires : tie.Need-rows-requires Inv-loop μ-loop
+rows-requires : tie.Need-rows-requires
 rows-requires c κs = search needs
 
-loop-holds : tie.Need-loop-holds Inv-loop μ-loop
-loop-holds c = searched-start (ring-length _ (c .rows .ensures .1))
+returns : tie.Need-returns
+returns c = rw (c .before .if1 .taken) (none-before (pathIn (c .before .before .before .args .p .now) .ring) (ring-length (c .before .before .before .args .p .now) (c .before .before .rows .ensures .1)) (c .if2 .taken))
 
-sent-requires : tie.Need-sent-requires Inv-loop μ-loop
-sent-requires c κs = search needs
+sub-first-due : tie.Need-sub-first-due
+sub-first-due c = search needs
 
-is-passed-requires : tie.Need-is-passed-requires Inv-loop μ-loop
-is-passed-requires c κs = search needs
+first-due-requires : tie.Need-first-due-requires
+first-due-requires c κs = search needs
 
-returns : tie.Need-returns Inv-loop μ-loop
-returns c = searched-here _ (c .before .before .before .before .loop .inv) (search needs) (ap (isPassed (c .before .before .before .before .before .before .args .at) (c .before .before .before .before .before .before .args .overdue)) (sym (c .before .before .sent .ensures)) ∙ sym (c .before .is-passed .ensures) ∙ c .if1 .taken)
+returns-2 : tie.Need-returns-2
+returns-2 c = rw (c .before .before .if1 .taken) (c .first-due .ensures ∙ due-before (pathIn (c .before .before .before .before .args .p .now) .ring) _ (c .before .if2 .left))
 
-add-i : tie.Need-add-i Inv-loop μ-loop
-add-i c = search needs
+first-due-requires-2 : tie.Need-first-due-requires-2
+first-due-requires-2 c κs = search needs
 
-loop-less : tie.Need-loop-less Inv-loop μ-loop
-loop-less c = search needs
-
-loop-again : tie.Need-loop-again Inv-loop μ-loop
-loop-again c = searched-next _ (c .before .before .before .before .loop .inv) (search needs) (ap (isPassed (c .before .before .before .before .before .before .args .at) (c .before .before .before .before .before .before .args .overdue)) (sym (c .before .before .sent .ensures)) ∙ sym (c .before .is-passed .ensures) ∙ c .if1 .left)
-
-returns-2 : tie.Need-returns-2 Inv-loop μ-loop
-returns-2 c = searched-end (c .before .loop .inv) (search needs)
+returns-3 : tie.Need-returns-3
+returns-3 c = rw (c .before .if1 .left) (c .first-due2 .ensures)
 
 pub first-passed-spec : {M : Type 1} → statement M
 first-passed-spec =
     tie.close
     (tie.spec
-    Inv-loop
-    μ-loop
     rows-requires
-    loop-holds
-    sent-requires
-    is-passed-requires
     returns
-    add-i
-    loop-less
-    loop-again
-    returns-2)
+    sub-first-due
+    first-due-requires
+    returns-2
+    first-due-requires-2
+    returns-3)

@@ -24,8 +24,8 @@ sent-requires c κs = search needs
 add-r : tie.Need-add-r Inv-loop μ-loop
 add-r c = search needs
 
-set-sent-requires : tie.Need-set-sent-requires Inv-loop μ-loop
-set-sent-requires c κs = search needs
+move-sent-requires : tie.Need-move-sent-requires Inv-loop μ-loop
+move-sent-requires c κs = search needs
 
 add-w : tie.Need-add-w Inv-loop μ-loop
 add-w c = search needs
@@ -34,7 +34,7 @@ loop-less : tie.Need-loop-less Inv-loop μ-loop
 loop-less c = search needs
 
 loop-again : tie.Need-loop-again Inv-loop μ-loop
-loop-again c = shut-move (c .before .before .before .before .before .before .loop .inv) (c .before .before .before .before .before .loop-test .taken) (c .before .before .before .sent .ensures) (c .before .before .if1 .taken) (c .set-sent .ensures)
+loop-again c = shut-move (c .before .before .before .before .before .before .loop .inv) (c .before .before .before .before .before .loop-test .taken) (c .before .before .before .sent .ensures) (c .before .before .if1 .taken) (c .move-sent .ensures)
 
 loop-less-2 : tie.Need-loop-less-2 Inv-loop μ-loop
 loop-less-2 c = search needs
@@ -55,7 +55,7 @@ press-spec =
     loop-holds
     sent-requires
     add-r
-    set-sent-requires
+    move-sent-requires
     add-w
     loop-less
     loop-again

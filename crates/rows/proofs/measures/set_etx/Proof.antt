@@ -1,6 +1,6 @@
 -- `rows::measures::set_etx` meets its contract.
 -- Assumes nothing.
-use Rattle.rows.proofs.SaysLaws.{says-etx}
+use Rattle.rows.proofs.SaysLaws.{put-etx}
 use borrow.Author.Needs.{needs}
 use Rattle.rows.proofs.measures.set_etx.Statement.{statement}
 use Rattle.rows.proofs.measures.set_etx.Tie as tie
@@ -8,14 +8,32 @@ use Rattle.rows.proofs.measures.set_etx.Tie as tie
 rows-requires : tie.Need-rows-requires
 rows-requires c κs = search needs
 
+element-copy-out-t : tie.Need-element-copy-out-t
+element-copy-out-t c = search needs
+
 etx-row-requires : tie.Need-etx-row-requires
 etx-row-requires c κs = search needs
 
-element-set-from-t : tie.Need-element-set-from-t
-element-set-from-t c = search needs
+array-read-put : tie.Need-array-read-put
+array-read-put c = search needs
+
+put-requires : tie.Need-put-requires
+put-requires c κs = search needs
+
+element-set-from-v : tie.Need-element-set-from-v
+element-set-from-v c = search needs
 
 returns : tie.Need-returns
-returns c = says-etx _ (c .before .rows .ensures .1) _ (c .etx-row .ensures)
+returns c = put-etx (c .before .before .before .before .before .args .p .now) (c .before .before .before .rows .ensures .1) (c .before .etx-row .ensures) (c .put .ensures)
 
 pub set-etx-spec : {M : Type 1} → statement M
-set-etx-spec = tie.close (tie.spec rows-requires etx-row-requires element-set-from-t returns)
+set-etx-spec =
+    tie.close
+    (tie.spec
+    rows-requires
+    element-copy-out-t
+    etx-row-requires
+    array-read-put
+    put-requires
+    element-set-from-v
+    returns)

@@ -1,6 +1,6 @@
 -- `rows::measures::set_sample` meets its contract.
 -- Assumes nothing.
-use Rattle.rows.proofs.SaysLaws.{past-sample, says-sample}
+use Rattle.rows.proofs.SaysLaws.{past-sample, says-sample, whole}
 use borrow.Author.Needs.{needs}
 use Rattle.rows.proofs.measures.set_sample.Statement.{statement}
 use Rattle.rows.proofs.measures.set_sample.Tie as tie
@@ -24,7 +24,7 @@ element-set-from-t : tie.Need-element-set-from-t
 element-set-from-t c = search needs
 
 returns-2 : tie.Need-returns-2
-returns-2 c = says-sample _ (c .before .before .rows .ensures .1) _ (c .before .if1 .left) (c .sample-row .ensures)
+returns-2 c = says-sample _ (c .before .before .rows .ensures .1) _ (c .before .if1 .left) (whole (c .sample-row .ensures))
 
 pub set-sample-spec : {M : Type 1} → statement M
 set-sample-spec =

@@ -18,7 +18,7 @@ element-set-from-b : tie.Need-element-set-from-b
 element-set-from-b c = search needs
 
 returns : tie.Need-returns
-returns c = says-sizes _ (c .before .before .before .rows .ensures .1) _ _ (c .before .before .sizes-rows .ensures)
+returns c = says-sizes _ (c .before .before .before .rows .ensures .1) _ _ ((λ d. (c .before .before .sizes-rows .ensures .0, c .before .before .sizes-rows .ensures .1)), c .before .before .sizes-rows .ensures .2)
 
 pub set-sizes-spec : {M : Type 1} → statement M
 set-sizes-spec =

@@ -1,6 +1,6 @@
 -- `rows::measures::set_span` meets its contract.
 -- Assumes nothing.
-use Rattle.rows.proofs.SaysLaws.{past-span, says-span}
+use Rattle.rows.proofs.SaysLaws.{past-span, says-span, whole}
 use borrow.Author.Needs.{needs}
 use Rattle.rows.proofs.measures.set_span.Statement.{statement}
 use Rattle.rows.proofs.measures.set_span.Tie as tie
@@ -24,7 +24,7 @@ element-set-from-t : tie.Need-element-set-from-t
 element-set-from-t c = search needs
 
 returns-2 : tie.Need-returns-2
-returns-2 c = says-span _ (c .before .before .rows .ensures .1) _ (c .before .if1 .left) (c .span-row .ensures)
+returns-2 c = says-span _ (c .before .before .rows .ensures .1) _ (c .before .if1 .left) (whole (c .span-row .ensures))
 
 pub set-span-spec : {M : Type 1} → statement M
 set-span-spec =

@@ -1,6 +1,6 @@
 -- `rows::probes::set_ids` meets its contract.
 -- Assumes nothing.
-use Rattle.rows.proofs.SaysLaws.{says-ids}
+use Rattle.rows.proofs.SaysLaws.{says-ids, whole}
 use borrow.Author.Needs.{needs}
 use Rattle.rows.proofs.probes.set_ids.Statement.{statement}
 use Rattle.rows.proofs.probes.set_ids.Tie as tie
@@ -15,7 +15,7 @@ element-set-from-t : tie.Need-element-set-from-t
 element-set-from-t c = search needs
 
 returns : tie.Need-returns
-returns c = says-ids _ (c .before .rows .ensures .1) _ (c .ids-row .ensures)
+returns c = says-ids _ (c .before .rows .ensures .1) _ (whole (c .ids-row .ensures))
 
 pub set-ids-spec : {M : Type 1} → statement M
 set-ids-spec = tie.close (tie.spec rows-requires ids-row-requires element-set-from-t returns)

@@ -1,6 +1,6 @@
 -- `rows::probes::set_ladder` meets its contract.
 -- Assumes nothing.
-use Rattle.rows.proofs.SaysLaws.{says-ladder}
+use Rattle.rows.proofs.SaysLaws.{put-ladder}
 use borrow.Author.Needs.{needs}
 use Rattle.rows.proofs.probes.set_ladder.Statement.{statement}
 use Rattle.rows.proofs.probes.set_ladder.Tie as tie
@@ -8,14 +8,28 @@ use Rattle.rows.proofs.probes.set_ladder.Tie as tie
 rows-requires : tie.Need-rows-requires
 rows-requires c κs = search needs
 
+element-copy-out-t : tie.Need-element-copy-out-t
+element-copy-out-t c = search needs
+
 ladder-row-requires : tie.Need-ladder-row-requires
 ladder-row-requires c κs = search needs
 
-element-set-from-t : tie.Need-element-set-from-t
-element-set-from-t c = search needs
+first-two-requires : tie.Need-first-two-requires
+first-two-requires c κs = search needs
+
+element-set-from-v : tie.Need-element-set-from-v
+element-set-from-v c = search needs
 
 returns : tie.Need-returns
-returns c = says-ladder _ (c .before .rows .ensures .1) _ (c .ladder-row .ensures)
+returns c = put-ladder (c .before .before .before .before .before .args .p .now) (c .before .before .before .rows .ensures .1) (c .before .ladder-row .ensures) (c .first-two .ensures)
 
 pub set-ladder-spec : {M : Type 1} → statement M
-set-ladder-spec = tie.close (tie.spec rows-requires ladder-row-requires element-set-from-t returns)
+set-ladder-spec =
+    tie.close
+    (tie.spec
+    rows-requires
+    element-copy-out-t
+    ladder-row-requires
+    first-two-requires
+    element-set-from-v
+    returns)

@@ -1,6 +1,6 @@
 -- `rows::probes::set_quiet` meets its contract.
 -- Assumes nothing.
-use Rattle.rows.proofs.SaysLaws.{says-quiet}
+use Rattle.rows.proofs.SaysLaws.{put-quiet}
 use borrow.Author.Needs.{needs}
 use Rattle.rows.proofs.probes.set_quiet.Statement.{statement}
 use Rattle.rows.proofs.probes.set_quiet.Tie as tie
@@ -8,14 +8,28 @@ use Rattle.rows.proofs.probes.set_quiet.Tie as tie
 rows-requires : tie.Need-rows-requires
 rows-requires c κs = search needs
 
+element-copy-out-t : tie.Need-element-copy-out-t
+element-copy-out-t c = search needs
+
 time-row-requires : tie.Need-time-row-requires
 time-row-requires c κs = search needs
 
-element-set-from-t : tie.Need-element-set-from-t
-element-set-from-t c = search needs
+first-two-requires : tie.Need-first-two-requires
+first-two-requires c κs = search needs
+
+element-set-from-v : tie.Need-element-set-from-v
+element-set-from-v c = search needs
 
 returns : tie.Need-returns
-returns c = says-quiet _ (c .before .rows .ensures .1) _ (c .time-row .ensures)
+returns c = put-quiet (c .before .before .before .before .before .args .p .now) (c .before .before .before .rows .ensures .1) (c .before .time-row .ensures) (c .first-two .ensures)
 
 pub set-quiet-spec : {M : Type 1} → statement M
-set-quiet-spec = tie.close (tie.spec rows-requires time-row-requires element-set-from-t returns)
+set-quiet-spec =
+    tie.close
+    (tie.spec
+    rows-requires
+    element-copy-out-t
+    time-row-requires
+    first-two-requires
+    element-set-from-v
+    returns)

@@ -1,6 +1,6 @@
 -- `rows::probes::set_sent` meets its contract.
 -- Assumes nothing.
-use Rattle.rows.proofs.SaysLaws.{past-ring, says-ring}
+use Rattle.rows.proofs.SaysLaws.{past-ring, says-ring, whole}
 use borrow.Author.Needs.{needs}
 use Rattle.rows.proofs.probes.set_sent.Statement.{statement}
 use Rattle.rows.proofs.probes.set_sent.Tie as tie
@@ -21,7 +21,7 @@ element-set-from-t : tie.Need-element-set-from-t
 element-set-from-t c = search needs
 
 returns-2 : tie.Need-returns-2
-returns-2 c = says-ring _ (c .before .before .rows .ensures .1) _ (c .before .if1 .left) (c .sent-row .ensures)
+returns-2 c = says-ring _ (c .before .before .rows .ensures .1) _ (c .before .if1 .left) (whole (c .sent-row .ensures))
 
 pub set-sent-spec : {M : Type 1} → statement M
 set-sent-spec =
