@@ -15,7 +15,7 @@ fn passed(due: u64, now: u64, overdue: bool) -> bool
 }
 
 // Whether the entry waits and its due has passed.
-fn is_passed(s: Sent, now: u64, overdue: bool) -> bool
+pub fn is_passed(s: Sent, now: u64, overdue: bool) -> bool
     ensures { λ r. ⌜ r ≡ isPassed now overdue s ⌝ }
 {
     if s.used {
@@ -41,7 +41,7 @@ fn first_passed(ring: [Sent; RING], now: u64, overdue: bool) -> usize
 }
 
 // The due that a probe gets in place of its own where data arrived after it was sent, unless that has passed too.
-fn defer(s: Sent, data_at: MaybeTime, cap: u64, now: u64, overdue: bool) -> MaybeTime
+pub fn defer(s: Sent, data_at: MaybeTime, cap: u64, now: u64, overdue: bool) -> MaybeTime
     ensures { λ r. ⌜ r ≡ deferOf data_at cap now overdue s ⌝ }
 {
     match data_at {

@@ -23,7 +23,7 @@ pub fn first_free(ring: [Sent; RING]) -> usize
 }
 
 // Free, or its lapse counts.
-fn fine(s: Sent, since: MaybeId) -> bool
+pub fn fine(s: Sent, since: MaybeId) -> bool
     ensures { λ r. ⌜ r ≡ fineOf since s ⌝ }
 {
     if s.used {
@@ -62,7 +62,7 @@ pub fn none() -> Sent
 }
 
 // Whether the entry is the waiting probe id.
-fn is_probe(s: Sent, id: u32) -> bool
+pub fn is_probe(s: Sent, id: u32) -> bool
     ensures { λ r. ⌜ r ≡ isProbe id s ⌝ }
 {
     if s.used { s.probe_id == id } else { false }

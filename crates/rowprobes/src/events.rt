@@ -2,7 +2,6 @@
 // before anything is stored.
 ghost use mathlib.Core.Path.{_≡_};
 ghost use Rattle.ring.specs.Ring.{outstandingOf};
-ghost use Rattle.stop.specs.Silence.{fromOf};
 ghost use Rattle.live.specs.Probe.{sendOf, answerOf, clearOf, thawOf};
 ghost use Rattle.rules.specs.Rules.{turn, turnBy, polled};
 ghost use Rattle.rules.specs.declared.types.Reply.the-variants.{Count, Nothing};
@@ -18,16 +17,6 @@ use rowring::store::*;
 use rows::probes::*;
 use rules::types::*;
 use seek::types::Ladder;
-
-// The instant that there is, else `at`.
-fn first_of(quiet: MaybeTime, at: u64) -> u64
-    ensures { λ r. ⌜ r ≡ fromOf quiet at ⌝ }
-{
-    match quiet {
-        MaybeTime::None => at,
-        MaybeTime::Some(t) => t,
-    }
-}
 
 // Probe.
 pub fn probe(p: &mut [[u64; 4]; ROWS], e: Event) -> Reply
@@ -49,7 +38,7 @@ pub fn probe(p: &mut [[u64; 4]; ROWS], e: Event) -> Reply
     let after = ring::ids::next_ids(kept, id);
     let later = after.next_id;
     let before = quiet(p);
-    let first = MaybeTime::Some(first_of(before, e.now));
+    let first = MaybeTime::Some(stop::silence::from(before, e.now));
     let l = ladder(p);
     let last = MaybeLen::Some(short);
     let rung = Ladder {
@@ -122,14 +111,6 @@ pub fn thaw(p: &mut [[u64; 4]; ROWS]) -> Reply
     Reply::Nothing
 }
 
-// How many probes wait: a ring has eight places.
-fn waiting(ring: [Sent; RING]) -> u32
-    ensures { λ r. ⌜ r ≡ outstandingOf ring ⌝ }
-{
-    let n = ring::ring::outstanding(ring);
-    n as u32
-}
-
 // Sweep: every waiting probe is given up, and counted.
 pub fn sweep(p: &mut [[u64; 4]; ROWS]) -> Reply
     ensures { λ r. ⌜ Turns (now (p .entry)) (now (p .exit)) r
@@ -138,7 +119,7 @@ pub fn sweep(p: &mut [[u64; 4]; ROWS]) -> Reply
 {
     let ring = ring_of(p);
     let old = late_of(p);
-    let n = waiting(ring);
+    let n = works::probes::waiting(ring);
     let after = ring::ring::sweep(old, ring);
     set_lates(p, after);
     free_from(p, 0);

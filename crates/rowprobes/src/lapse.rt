@@ -2,7 +2,7 @@
 ghost use mathlib.Core.Path.{_≡_};
 ghost use mathlib.Core.Bool.{false};
 ghost use Rattle.base.specs.Seq.{position};
-ghost use Rattle.ring.specs.Lapse.{passedAt, isPassed, deferOf};
+ghost use Rattle.ring.specs.Lapse.{isPassed};
 ghost use Rattle.live.specs.Answers.{hasLapsed};
 ghost use Rattle.live.specs.Path.{withRing};
 ghost use Rattle.live.specs.Probe.{expireOf};
@@ -11,29 +11,13 @@ ghost use Rattle.rows.specs.Says.{Says};
 ghost use Rattle.rowprobes.specs.Scan.{scanIn, lapsedIn};
 use base::limits::DURATION_END;
 use base::types::*;
+use ring::lapse::defer;
+use ring::lapse::is_passed;
 use ring::types::*;
 use rowring::store::*;
 use rows::measures::data_at;
 use rows::probes::*;
 use seek::types::Ladder;
-
-// Whether a due instant has passed.
-fn passed(due: u64, at: u64, overdue: bool) -> bool
-    ensures { λ r. ⌜ r ≡ passedAt at overdue due ⌝ }
-{
-    if overdue { due < at } else { due <= at }
-}
-
-// Whether the entry waits and its due has passed.
-fn is_passed(s: Sent, at: u64, overdue: bool) -> bool
-    ensures { λ r. ⌜ r ≡ isPassed at overdue s ⌝ }
-{
-    if s.used {
-        passed(s.due, at, overdue)
-    } else {
-        false
-    }
-}
 
 // The place of the first probe whose due is not after an instant, or 8.
 fn first_due(p: &[[u64; 4]; ROWS], last: u64) -> usize
@@ -63,27 +47,6 @@ fn first_passed(p: &[[u64; 4]; ROWS], at: u64, overdue: bool) -> usize
         return first_due(p, at - 1);
     }
     first_due(p, at)
-}
-
-// The due that a probe gets in place of its own where data arrived after it was sent, unless that has passed too.
-fn defer(s: Sent, heard: MaybeTime, cap: u64, at: u64, overdue: bool) -> MaybeTime
-    ensures { λ r. ⌜ r ≡ deferOf heard cap at overdue s ⌝ }
-{
-    match heard {
-        MaybeTime::None => MaybeTime::None,
-        MaybeTime::Some(t) => {
-            if s.at < t {
-                let until = base::time::deadline(s.at, cap);
-                if passed(until, at, overdue) {
-                    MaybeTime::None
-                } else {
-                    MaybeTime::Some(until)
-                }
-            } else {
-                MaybeTime::None
-            }
-        }
-    }
 }
 
 // Defers probes, and gives the place of the one that lapses, or 8.

@@ -1,9 +1,11 @@
 // Searches in the ring and the late list of a slot's rows.
 ghost use mathlib.Core.Path.{_≡_};
-ghost use Rattle.ring.specs.Ring.{firstFree, fineOf, allCount, isProbe, found};
+ghost use Rattle.ring.specs.Ring.{firstFree, allCount, found};
 ghost use Rattle.rows.specs.View.{pathIn};
 ghost use Rattle.rowring.specs.Steps.{isDropped};
 use base::types::*;
+use ring::ring::fine;
+use ring::ring::is_probe;
 use ring::types::*;
 use rows::probes::*;
 
@@ -21,17 +23,6 @@ pub fn first_free(p: &[[u64; 4]; ROWS]) -> usize
         i += 1;
     }
     i
-}
-
-// Free, or its lapse counts.
-fn fine(s: Sent, since: MaybeId) -> bool
-    ensures { λ r. ⌜ r ≡ fineOf since s ⌝ }
-{
-    if s.used {
-        ring::ids::counts(since, s.probe_id)
-    } else {
-        true
-    }
 }
 
 // Whether every waiting probe counts.
@@ -58,13 +49,6 @@ pub fn is_dropped(p: &[[u64; 4]; ROWS], since: MaybeId) -> bool
         MaybeId::None => false,
         MaybeId::Some(id) => all_count(p, since),
     }
-}
-
-// Whether the entry is the waiting probe id.
-fn is_probe(s: Sent, id: u32) -> bool
-    ensures { λ r. ⌜ r ≡ isProbe id s ⌝ }
-{
-    if s.used { s.probe_id == id } else { false }
 }
 
 // The place of the first waiting probe with the identifier, or 8.

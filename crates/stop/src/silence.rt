@@ -12,7 +12,7 @@ const PATH_DEAD_PROBE_INTERVAL_MAX: u64 = 30000000000;
 const PATH_DEAD_RECHECK_SPAN: u64 = 30000000000;
 
 // The instant that there is, else `at`.
-fn from(quiet: MaybeTime, at: u64) -> u64
+pub fn from(quiet: MaybeTime, at: u64) -> u64
     ensures { λ r. ⌜ r ≡ fromOf quiet at ⌝ }
 {
     match quiet {

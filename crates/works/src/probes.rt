@@ -96,7 +96,7 @@ pub fn thaw(s: Slot) -> Turn
 }
 
 // How many probes wait: a ring has eight places.
-fn waiting(ring: [Sent; RING]) -> u32
+pub fn waiting(ring: [Sent; RING]) -> u32
     ensures { λ r. ⌜ r ≡ outstandingOf ring ⌝ }
 {
     let n = ring::ring::outstanding(ring);

@@ -32,8 +32,8 @@ next-ids-requires c κs = search needs
 quiet-requires : tie.Need-quiet-requires
 quiet-requires c κs = search needs
 
-first-of-requires : tie.Need-first-of-requires
-first-of-requires c κs = search needs
+from-requires : tie.Need-from-requires
+from-requires c κs = search needs
 
 ladder-requires : tie.Need-ladder-requires
 ladder-requires c κs = search needs
@@ -51,7 +51,7 @@ set-ladder-requires : tie.Need-set-ladder-requires
 set-ladder-requires c κs = search needs
 
 returns-3 : tie.Need-returns-3
-returns-3 c = send-made (c .before .before .before .before .before .before .before .before .before .before .before .before .before .before .before .before .before .before .before .before .before .before .before .before .before .args .p .now) _ _ _ _ (c .before .before .before .before .before .before .before .before .before .before .before .before .before .before .before .before .before .before .before .before .before .before .before .if1 .left) (c .before .before .before .before .before .before .before .before .before .before .before .before .before .before .before .before .before .before .before .before .before .first-free .ensures) (c .before .before .before .before .before .before .before .before .before .before .before .before .before .before .before .before .before .before .before .before .if2 .left) (c .before .before .before .before .before .before .before .before .before .before .before .before .before .before .before .before .before .drop-since .ensures) (c .before .before .before .before .before .before .before .before .before .before .before .before .before .before .before .ids .ensures) (c .before .before .before .before .before .before .before .before .before .before .before .before .before .before .taken .ensures) (c .before .before .before .before .before .before .before .before .before .before .before .before .before .next-ids .ensures) (c .before .before .before .before .before .before .before .before .before .before .before .quiet .ensures) (c .before .before .before .before .before .before .before .before .before .before .first-of .ensures) (c .before .before .before .before .before .before .before .before .ladder .ensures) (c .before .before .before .before .before .before .set-sent .ensures) (c .before .before .before .before .set-id .ensures) (c .before .before .set-quiet .ensures) (c .set-ladder .ensures)
+returns-3 c = send-made (c .before .before .before .before .before .before .before .before .before .before .before .before .before .before .before .before .before .before .before .before .before .before .before .before .before .args .p .now) _ _ _ _ (c .before .before .before .before .before .before .before .before .before .before .before .before .before .before .before .before .before .before .before .before .before .before .before .if1 .left) (c .before .before .before .before .before .before .before .before .before .before .before .before .before .before .before .before .before .before .before .before .before .first-free .ensures) (c .before .before .before .before .before .before .before .before .before .before .before .before .before .before .before .before .before .before .before .before .if2 .left) (c .before .before .before .before .before .before .before .before .before .before .before .before .before .before .before .before .before .drop-since .ensures) (c .before .before .before .before .before .before .before .before .before .before .before .before .before .before .before .ids .ensures) (c .before .before .before .before .before .before .before .before .before .before .before .before .before .before .taken .ensures) (c .before .before .before .before .before .before .before .before .before .before .before .before .before .next-ids .ensures) (c .before .before .before .before .before .before .before .before .before .before .before .quiet .ensures) (c .before .before .before .before .before .before .before .before .before .before .from .ensures) (c .before .before .before .before .before .before .before .before .ladder .ensures) (c .before .before .before .before .before .before .set-sent .ensures) (c .before .before .before .before .set-id .ensures) (c .before .before .set-quiet .ensures) (c .set-ladder .ensures)
 
 pub probe-spec : {M : Type 1} → statement M
 probe-spec =
@@ -66,7 +66,7 @@ probe-spec =
     taken-requires
     next-ids-requires
     quiet-requires
-    first-of-requires
+    from-requires
     ladder-requires
     set-sent-requires
     set-id-requires
