@@ -14,7 +14,7 @@ use Rattle.select.specs.declared.types.Rival.{Rival}
 use Rattle.select.specs.declared.types.MaybeRival.{MaybeRival}
 use Rattle.select.specs.declared.types.MaybeRival.the-variants.{None, Some}
 use Rattle.rules.specs.Event.{valueOf}
-use Rattle.rules.specs.Step.{rivalOf, rivalsAt, isMargin, choiceReply}
+use Rattle.rules.specs.Step.{rivalsAt, isMargin, choiceReply}
 use Rattle.rules.specs.declared.types.Slot.{Slot}
 use Rattle.rules.proofs.Choosing.{In, From, keep-in, only-in, picked-from}
 use Rattle.choosing.specs.Choosing.{chosenOf}

@@ -19,7 +19,7 @@ use Rattle.rules.specs.Step.{rivalOf, rivalsAt, isMargin, choiceReply}
 use Rattle.rules.specs.declared.types.Slot.{Slot}
 use Rattle.rules.specs.declared.types.Reply.{Reply}
 use Rattle.rules.specs.declared.types.Reply.the-variants as reply
-use Rattle.choosing.specs.Choosing.{chosenReply, chosenOf}
+use Rattle.choosing.specs.Choosing.{slotReply, chosenOf}
 
 -- of what f makes of the rivals of l those before i stand at the front of out
 pub record Filling (f : Rival → Rival) (l : List Slot) (out : List Rival) (i : ℕ) : Type 0 where
@@ -60,7 +60,7 @@ module _ {f : Rival → Rival} {l : List Slot} {out : List Rival} where
       sym (rw (z, a, append-nil) at (s .done))
 
 -- the answer by what was picked
-reply-slot : (m : MaybeRival) → chosenReply (slotOf m) ≡ choiceReply m
+reply-slot : (m : MaybeRival) → slotReply (slotOf m) ≡ choiceReply m
 reply-slot (Some r) = refl
 reply-slot None = refl
 
@@ -72,12 +72,12 @@ picked-as margin e f = f ∙ ap (λ (m : List Rival). slotOf (pickedOf m margin)
 -- the answer where the margin is allowed
 pub chosen-margin : (slots : List Slot) (span : ℕ) {margin : Float} {k : Chosen} {r : Reply}
     → margin ≡ ofBits binary64 span
-    → isMargin margin ≡ true → k ≡ slotOf (pickedOf (rivalsAt 0 slots) margin) → r ≡ chosenReply k
+    → isMargin margin ≡ true → k ≡ slotOf (pickedOf (rivalsAt 0 slots) margin) → r ≡ slotReply k
     → r ≡ chosenOf slots span
 unfolding chosenOf
 chosen-margin slots span {margin} {k} {r} e m f h =
     h
-    ∙ ap chosenReply f
+    ∙ ap slotReply f
     ∙ reply-slot (pickedOf (rivalsAt 0 slots) margin)
     ∙ sym
     (ap (λ (t : Bool). cond t (choiceReply (pickedOf (rivalsAt 0 slots) margin)) (reply.Refused refusal.Margin)) m)

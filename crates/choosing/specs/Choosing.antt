@@ -13,9 +13,9 @@ use Rattle.rules.specs.declared.types.Reply.{Reply}
 use Rattle.rules.specs.declared.types.Reply.the-variants as reply
 
 -- the slot that a choice takes, or its refusal
-abbrev pub chosenReply : Chosen → Reply
-chosenReply (chosen.Slot n) = reply.Chosen n
-chosenReply (chosen.Refused why) = reply.Refused why
+abbrev pub slotReply : Chosen → Reply
+slotReply (chosen.Slot n) = reply.Chosen n
+slotReply (chosen.Refused why) = reply.Refused why
 
 -- "7: margin not finite or below 1"; else the slot that is picked of all eight, "11: no path open"
 unfoldable pub chosenOf : List Slot → ℕ → Reply

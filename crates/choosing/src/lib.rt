@@ -2,7 +2,7 @@
 ghost use mathlib.Core.Path.{_≡_};
 ghost use Rattle.scores.specs.Scores.{scoreIn, isScored, timeIn, isTimed};
 ghost use Rattle.rules.specs.Step.{rivalOf, rivalsAt, isMargin};
-ghost use Rattle.choosing.specs.Choosing.{chosenReply, chosenOf};
+ghost use Rattle.choosing.specs.Choosing.{slotReply, chosenOf};
 use base::types::*;
 use rules::types::*;
 use scores::MaybeScore;
@@ -104,7 +104,7 @@ pub fn is_margin(m: f64) -> bool
 
 // The slot that a choice takes, or its refusal.
 pub fn choice_reply(m: Chosen) -> Reply
-    ensures { λ r. ⌜ r ≡ chosenReply m ⌝ }
+    ensures { λ r. ⌜ r ≡ slotReply m ⌝ }
 {
     match m {
         Chosen::Slot(n) => Reply::Chosen(n),

@@ -33,7 +33,7 @@ use Rattle.cells.specs.Cells.{labelIn, usedIn, stopIn, word, idIn, lengthIn, wi
 use Rattle.cells.specs.Code.{sentRow, idsRow, timeRow, seekRow, provenRow, ladderRow, arrivalsRow, countersRow}
 use Rattle.cells.proofs.PartLaws.{id-put, id-coded}
 use Rattle.cells.specs.Code.{idWord, lenWord, stopRow, untilRow, missesRow, etxRow, sampleRow, spanRow}
-use Rattle.rows.specs.Parts.{moved, withProven, withSeek, withQuiet, withStop, withSamples, withSpans, withTrip}
+use Rattle.rows.specs.Parts.{moved, withProven, withSeekIn, withQuiet, withStop, withSamples, withSpans, withTrip}
 use Rattle.rows.specs.View.{row, pathIn, slotIn}
 use Rattle.rows.specs.Encode.{slotRows, IsCoded}
 use Rattle.rows.specs.Says.{Says, Turns, isRefused}
@@ -311,7 +311,7 @@ module _ (p : List (List ℕ)) (n : length p ≡ 65) where
 
   -- the search
   pub put-seek : {x : Sizes} {a b r : List ℕ} → (a ≡ seekRow x) × (b ≡ provenRow x) × (sizesIn a b ≡ x)
-      → r ≡ firstOne b (row p 17) → Says p (set (set p 16 a) 17 r) (withSeek (pathIn p) (x .seek))
+      → r ≡ firstOne b (row p 17) → Says p (set (set p 16 a) 17 r) (withSeekIn (pathIn p) (x .seek))
   unfolding seekRow provenRow sizesIn pathIn
   put-seek {x} {a} {b} {r} e f =
       says-sizes p n a r (

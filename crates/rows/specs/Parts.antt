@@ -30,8 +30,8 @@ abbrev pub withProven : Liveness → MaybeLen → Liveness
 withProven p m = withSizes p (record { seek = p .sizes .seek; proven = m })
 
 -- another search
-abbrev pub withSeek : Liveness → Seek → Liveness
-withSeek p s = withSizes p (record { seek = s; proven = p .sizes .proven })
+abbrev pub withSeekIn : Liveness → Seek → Liveness
+withSeekIn p s = withSizes p (record { seek = s; proven = p .sizes .proven })
 
 -- other samples
 abbrev pub withSamples : Liveness → List Sample → Liveness

@@ -5,7 +5,7 @@ ghost use lib.ListN.{set, getD};
 ghost use Rattle.rtt.specs.Samples.{noSample};
 ghost use Rattle.rtt.specs.Spans.{noSpan};
 ghost use Rattle.live.specs.Path.{withSizes, withTraffic, withEtx};
-ghost use Rattle.rows.specs.Parts.{withProven, withSeek, withStop, withSamples, withSpans, withTrip};
+ghost use Rattle.rows.specs.Parts.{withProven, withSeekIn, withStop, withSamples, withSpans, withTrip};
 ghost use Rattle.rows.specs.View.{pathIn};
 ghost use Rattle.rows.specs.Says.{Says};
 use crate::probes::*;
@@ -51,7 +51,7 @@ pub fn set_proven(p: &mut [[u64; 4]; ROWS], m: MaybeLen)
 
 // Stores the search.
 pub fn set_seek(p: &mut [[u64; 4]; ROWS], s: Seek)
-    ensures { λ r. ⌜ Says (now (p .entry)) (now (p .exit)) (withSeek (pathIn (now (p .entry))) s) ⌝ }
+    ensures { λ r. ⌜ Says (now (p .entry)) (now (p .exit)) (withSeekIn (pathIn (now (p .entry))) s) ⌝ }
 {
     rows(p);
     let u = p[17];

@@ -35,7 +35,7 @@ use Rattle.rules.specs.declared.types.Label.{Label}
 use Rattle.rules.specs.declared.types.Reply.the-variants as reply
 use Rattle.rules.specs.declared.types.Turn.{Turn}
 use Rattle.cells.specs.Cells.{labelIn, withId}
-use Rattle.rows.specs.Parts.{withProven, withSeek}
+use Rattle.rows.specs.Parts.{withProven, withSeekIn}
 use Rattle.rows.specs.View.{pathIn, slotIn}
 use Rattle.rows.specs.Says.{Says, Turns}
 use Rattle.rows.proofs.SaysLaws.{says-then, says-as, says-after, turns-by, turns-none, turns-as}
@@ -205,19 +205,19 @@ module _ (a : List (List ℕ)) (now timeout gap : ℕ) where
 pub fresh-made : {a b c d f : List (List ℕ)} {s t : Sizes} {o i : Ids} → s ≡ pathIn a .sizes → o ≡ pathIn a .ids
     → i ≡ freshIds o → t ≡ freshSizes s → Says a b (withIds (pathIn a) (withId (pathIn a .ids) 2 (i .epoch)))
     → Says b c (withMisses (pathIn b) 0)
-    → Says c d (withSeek (pathIn c) (t .seek))
+    → Says c d (withSeekIn (pathIn c) (t .seek))
     → Says d f (withLadder (pathIn d) (record { last = len.None; fallen = false }))
     → Turns a f reply.Nothing (turn (slotIn a) (freshOf (pathIn a)) reply.Nothing)
 fresh-made {a} {b} {c} {d} {f} {s} {t} {o} {i} g q r w x₀ y u v =
     let x : Says a b (withIds (pathIn a) i) = says-after 2 (λ (k : Ids). k .epoch) (r ∙ ap freshIds q) refl x₀ in
     let none : Ladder = record { last = len.None; fallen = false } in
-    let e : pathIn d ≡ withSeek (withMisses (withIds (pathIn a) i) 0) (t .seek) =
-    u .path ∙ ap (λ (p : Liveness). withSeek p (t .seek)) (y .path ∙ ap (λ (p : Liveness). withMisses p 0) (x .path)) in
+    let e : pathIn d ≡ withSeekIn (withMisses (withIds (pathIn a) i) 0) (t .seek) =
+    u .path ∙ ap (λ (p : Liveness). withSeekIn p (t .seek)) (y .path ∙ ap (λ (p : Liveness). withMisses p 0) (x .path)) in
     turns-by
     (says-as (says-then (says-then (says-then x y) u) v)
     (ap (λ (p : Liveness). withLadder p none) e
     ∙ (λ j.
-    withLadder (withSeek (withMisses (withIds (pathIn a) ((r ∙ ap freshIds q) j)) 0) ((w ∙ ap freshSizes g) j .seek)) none)))
+    withLadder (withSeekIn (withMisses (withIds (pathIn a) ((r ∙ ap freshIds q) j)) 0) ((w ∙ ap freshSizes g) j .seek)) none)))
     refl
     refl
 

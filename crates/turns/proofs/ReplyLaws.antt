@@ -1,11 +1,11 @@
 -- An answer in one word; and no event on a slot answers as a choice does.
 -- Assumes nothing.
 use Prim.Native.Nat.{ℕ, _+_, _*_, _^_, _%_, _<_}
-use mathlib.Core.Path.{_≡_, refl, sym, ap, subst, _∙_}
+use mathlib.Core.Path.{_≡_, refl, sym, subst}
 use mathlib.Core.Bool.{Bool, true, false, cond}
 use mathlib.Core.List.{List, [], _∷_}
 use native.Mathlib.Omega.{arith}
-use Rattle.base.proofs.Cases.{on-flag, never}
+use Rattle.base.proofs.Cases.{never}
 use Rattle.base.specs.Refusals.{refusalNumber}
 use Rattle.base.specs.declared.types.Refusal.{Refusal}
 use Rattle.base.specs.declared.types.Refusal.the-variants as refusal
@@ -16,7 +16,7 @@ use Rattle.live.specs.declared.types.Answer.{Answer}
 use Rattle.live.specs.declared.types.Answer.the-variants as answer
 use Rattle.live.specs.declared.types.Outcome.{Outcome}
 use Rattle.rules.specs.Event.{Kind, is, numberOf, valueOf}
-use Rattle.rules.specs.Rules.{replyOf, turn, turnBy, answered, searched, refusals, refusedOr, works, workOf, onSlot}
+use Rattle.rules.specs.Rules.{replyOf, turn, answered, searched, refusals, refusedOr, works, workOf, onSlot}
 use Rattle.rules.specs.declared.types.Settings.{Settings}
 use Rattle.rules.specs.declared.types.Event.{Event}
 use Rattle.rules.specs.declared.types.Reply.{Reply}
