@@ -51,6 +51,7 @@ unsafe extern "C" {
         len: u32,
         acked: u32,
     ) -> Reply;
+    safe fn hess_record_words(settings: &Settings, slots: &mut Slots, event: &[u64; 4]) -> Reply;
     fn hess_record_bytes(
         settings: &Settings,
         slots: &mut Slots,
@@ -102,6 +103,12 @@ impl Kept {
             e.len,
             e.acked,
         )
+    }
+
+    /// One event, by its four words.
+    #[inline]
+    pub fn words(&mut self, event: &[u64; 4]) -> Reply {
+        hess_record_words(&self.settings, &mut self.slots, event)
     }
 
     /// One event, by the bytes that begin with its record.

@@ -170,16 +170,17 @@ fn list(name: &str, turn: Turn) -> (Vec<Event>, Vec<Event>) {
 fn main() {
     println!();
     println!(
-        "| Events | on words, ns an event | the Rust's over C | ratio | its own method | ratio | by value | ratio |"
+        "| Events | by its words, ns an event | the Rust's method | ratio | by numbers | the Rust's over C | ratio | to the method | by value | ratio |"
     );
-    println!("|---|---|---|---|---|---|---|---|");
+    println!("|---|---|---|---|---|---|---|---|---|---|");
     for (name, turn) in turns() {
         let (before, events) = list(name, turn);
-        let [words, over_c, rust, value] = times(&before, &events);
+        let [words, rust, numbers, over_c, value] = times(&before, &events);
         println!(
-            "| {name} | {words:.1} | {over_c:.1} | {:.2} | {rust:.1} | {:.2} | {value:.0} | {:.1} |",
-            words / over_c,
+            "| {name} | {words:.1} | {rust:.1} | {:.2} | {numbers:.1} | {over_c:.1} | {:.2} | {:.2} | {value:.0} | {:.1} |",
             words / rust,
+            numbers / over_c,
+            numbers / rust,
             value / rust
         );
     }
@@ -224,8 +225,18 @@ fn over_c(record: &mut Record, e: &Event) -> u64 {
     rust_record_event(record, kind, slot, flags, now, span, id, len, acked).value
 }
 
-/// Medians of nanoseconds an event: on words, the Rust's over C, by its own method, by value.
-fn times(before: &[Event], events: &[Event]) -> [f64; 4] {
+/// An event as its four words: instant, span, identifier and length, acknowledged length with kind,
+/// slot and flags.
+fn words_of(e: &Event) -> [u64; 4] {
+    let (id, len, acked) = (u64::from(e.id), u64::from(e.len), u64::from(e.acked));
+    let (kind, slot, flags) = (u64::from(e.kind), u64::from(e.slot), u64::from(e.flags));
+    let marks = kind << 32 | slot << 40 | flags << 48;
+    [e.now, e.span, id | len << 32, acked | marks]
+}
+
+/// Medians of nanoseconds an event: by its words, the Rust's by its own method, by numbers, the Rust's over
+/// C, by value.
+fn times(before: &[Event], events: &[Event]) -> [f64; 5] {
     let mut words = Kept::filled(|| 0);
     let mut rust = Record::new(SETTINGS).expect("allowed settings");
     assert_eq!(words.renew(SETTINGS).number, 0);
@@ -233,22 +244,27 @@ fn times(before: &[Event], events: &[Event]) -> [f64; 4] {
         let reply = words.event(event);
         assert_eq!((reply.number, reply.value), rust.event(event));
     }
+    let coded: Vec<[u64; 4]> = events.iter().map(words_of).collect();
     let file = Filed::new(SETTINGS, [before, events].concat(), || 0);
     let mut ours = Ours::default();
-    let mut all = [const { Vec::new() }; 4];
+    let mut all = [const { Vec::new() }; 5];
     let mut lists = 1;
     for n in 0..=RUNS {
-        let (a, sum) = run(lists, events, &words, |words, e| words.event(e).value);
-        let (b, over) = run(lists, events, &rust, over_c);
-        let (c, same) = run(lists, events, &rust, |rust, e| rust.event(e).1);
-        assert!(sum == same && sum == over, "ours differs from the Rust's");
-        let d = median((0..FILES).map(|_| by_value(&mut ours, &file)).collect());
+        let (a, sum) = run(lists, &coded, &words, |words, e| words.words(e).value);
+        let (b, same) = run(lists, events, &rust, |rust, e| rust.event(e).1);
+        let (c, also) = run(lists, events, &words, |words, e| words.event(e).value);
+        let (d, over) = run(lists, events, &rust, over_c);
+        assert!(
+            [same, also, over] == [sum; 3],
+            "ours differs from the Rust's"
+        );
+        let e = median((0..FILES).map(|_| by_value(&mut ours, &file)).collect());
         // The first run only says how many lists the others have.
         if n == 0 {
-            lists = 1 + (SPAN / (c * events.len() as f64)) as usize;
+            lists = 1 + (SPAN / (b * events.len() as f64)) as usize;
             continue;
         }
-        for (all, time) in all.iter_mut().zip([a, b, c, d]) {
+        for (all, time) in all.iter_mut().zip([a, b, c, d, e]) {
             all.push(time);
         }
     }
@@ -257,11 +273,11 @@ fn times(before: &[Event], events: &[Event]) -> [f64; 4] {
 
 /// Nanoseconds an event in the median of so many lists, each from a copy made before the clock starts,
 /// and what the values come to.
-fn run<S: Clone>(
+fn run<S: Clone, E>(
     lists: usize,
-    events: &[Event],
+    events: &[E],
     start: &S,
-    event: impl Fn(&mut S, &Event) -> u64,
+    event: impl Fn(&mut S, &E) -> u64,
 ) -> (f64, u64) {
     let (mut times, mut sum) = (Vec::new(), 0);
     for _ in 0..lists {

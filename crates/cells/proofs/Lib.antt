@@ -2,3 +2,4 @@
 pub mod RowLaws
 pub mod MakerLaws
 pub mod PartLaws
+pub mod EventLaws

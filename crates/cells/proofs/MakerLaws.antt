@@ -35,7 +35,7 @@ use Rattle.cells.proofs.RowLaws.{traffic-says, misses-says, etx-says, s
 use Rattle.cells.proofs.RowLaws.{label-says, stop-says}
 
 -- what equals a number below a bound is below it
-under : {x y n : ℕ} → (x ≡ y) × (x < n) → y < n
+pub under : {x y n : ℕ} → (x ≡ y) × (x < n) → y < n
 under {x} {y} {n} p =
     let e : x ≡ y = p .0 in
     let h : x < n = p .1 in

@@ -22,6 +22,7 @@ use Rattle.stop.specs.declared.types.MaybeStop.{MaybeStop}
 use Rattle.stop.specs.declared.types.MaybeStop.the-variants as stop
 use Rattle.live.specs.declared.types.Traffic.{Traffic}
 use Rattle.select.specs.Media.{mediumOf, roleOf}
+use Rattle.rules.specs.declared.types.Event.{Event}
 use Rattle.rules.specs.declared.types.Label.{Label}
 use Rattle.rules.specs.declared.types.Settings.{Settings}
 
@@ -166,3 +167,18 @@ labelIn r =
 -- the settings of a record
 unfoldable pub settingsIn : List ℕ → Settings
 settingsIn r = record { cap = word r 0; gap = word r 1; window = word r 2; horizon = word r 3 }
+
+-- an event: its instant; its span; identifier and length, half a word each; the acknowledged length, half a word, then
+-- kind, slot and flags, a byte each, and a byte that is not read
+unfoldable pub eventIn : List ℕ → Event
+eventIn r =
+    record {
+      now = word r 0;
+      span = word r 1;
+      id = word r 2 % 2 ^ 32;
+      len = word r 2 / 2 ^ 32 % 2 ^ 32;
+      acked = word r 3 % 2 ^ 32;
+      kind = word r 3 / 2 ^ 32 % 256;
+      slot = word r 3 / 2 ^ 40 % 256;
+      flags = word r 3 / 2 ^ 48 % 256;
+    }

@@ -1,5 +1,5 @@
 -- The encoder's rows: the row that says a given thing, a spare word 0.
-use Prim.Native.Nat.{ℕ, _+_, _*_}
+use Prim.Native.Nat.{ℕ, _+_, _*_, _^_}
 use mathlib.Core.List.{List, [], _∷_}
 use mathlib.Core.Bool.{Bool, cond}
 use lib.Ieee.{Float}
@@ -23,6 +23,7 @@ use Rattle.select.specs.declared.types.Medium.{Medium}
 use Rattle.select.specs.declared.types.Medium.the-variants as medium
 use Rattle.select.specs.declared.types.Role.{Role}
 use Rattle.select.specs.declared.types.Role.the-variants as role
+use Rattle.rules.specs.declared.types.Event.{Event}
 use Rattle.rules.specs.declared.types.Label.{Label}
 use Rattle.rules.specs.declared.types.Settings.{Settings}
 
@@ -108,3 +109,9 @@ markRow used l = flagOf used ∷ l .full ∷ flagBits l ∷ 0 ∷ []
 
 unfoldable pub settingsRow : Settings → List ℕ
 settingsRow t = t .cap ∷ t .gap ∷ t .window ∷ t .horizon ∷ []
+
+-- the words of an event, the byte that is not read 0
+unfoldable pub eventRow : Event → List ℕ
+eventRow e =
+    e .now ∷ e .span ∷ (e .id + e .len * 2 ^ 32)
+    ∷ (e .acked + e .kind * 2 ^ 32 + e .slot * 2 ^ 40 + e .flags * 2 ^ 48) ∷ []

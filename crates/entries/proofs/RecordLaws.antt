@@ -10,13 +10,16 @@ use Rattle.rules.specs.declared.types.Event.{Event}
 use Rattle.eventfile.specs.declared.types.Parse.{Parse}
 use Rattle.eventfile.specs.declared.types.Parse.the-variants as parse
 use Rattle.rowpeer.specs.Record.{recordIn, Tells}
-use Rattle.entries.specs.Record.{StepsHere, noneTaken, takenBy, TakenHere}
+use Rattle.rowpeer.proofs.StepLaws.{tells-as}
+use Rattle.entries.specs.Record.{splitReply, StepsHere, noneTaken, takenBy, TakenHere}
+use Rattle.entries.specs.declared.Reply.{Reply}
 use Rattle.entries.specs.declared.record.Taken.{Taken}
 
 -- an event, its answer as C has it
-pub steps-here : (t : List ℕ) (a b : List (List (List ℕ))) (w : ℕ) (e : Event) → Tells t a b w (step (recordIn t a) e)
-    → StepsHere t a b (record { number = w / 2 ^ 32; value = w % 2 ^ 32 }) e
-steps-here t a b w e p = ((λ j. record { number = p .0 j; value = p .1 j }), p .2)
+pub steps-here : (t : List ℕ) (a b : List (List (List ℕ))) (w : ℕ) {r : Reply} {e f : Event} → e ≡ f → r ≡ splitReply w
+    → Tells t a b w (step (recordIn t a) e) → StepsHere t a b r f
+steps-here t a b w {r} {e} {f} q h p =
+    subst (λ (x : Event). StepsHere t a b r x) q (h ∙ (λ j. record { number = p .0 j; value = p .1 j }), p .2)
 
 -- no bytes
 pub taken-none : (t : List ℕ) (a : List (List (List ℕ))) (p : Parse) (r : Taken) → p ≡ parse.End → r ≡ noneTaken Cut
@@ -33,10 +36,11 @@ abbrev takenWith : ℕ → ℕ → ℕ → Taken
 takenWith n v size = record { number = n; value = v; read = size }
 
 -- an event that was read
-pub taken-event : (t : List ℕ) (a b : List (List (List ℕ))) (p : Parse) (e : Event) (size : ℕ) (w : ℕ)
-    → p ≡ parse.Event e size → Tells t a b w (step (recordIn t a) e)
+pub taken-event : (t : List ℕ) (a b : List (List (List ℕ))) (p : Parse) (e : Event) (size : ℕ) (w : ℕ) {f : Event}
+    → f ≡ e → p ≡ parse.Event e size → Tells t a b w (step (recordIn t a) f)
     → (takenWith (w / 2 ^ 32) (w % 2 ^ 32) size ≡ takenBy (recordIn t a) p) × TakenHere t a b p
-taken-event t a b p e size w h q =
+taken-event t a b p e size w k h q₀ =
+    let q : Tells t a b w (step (recordIn t a) e) = tells-as t a b w k q₀ in
     let same : takenWith (w / 2 ^ 32) (w % 2 ^ 32) size ≡ takenBy (recordIn t a) (parse.Event e size) =
     λ k. takenWith (q .0 k) (q .1 k) size in (
       same ∙ sym (ap (takenBy (recordIn t a)) h),

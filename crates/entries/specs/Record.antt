@@ -1,6 +1,6 @@
 -- What the functions on a record in lent words reply, and what they leave there: rowpeer's definitions, with an answer
 -- as its number and its value. t are the four words of the settings, a the eight slots before and b those after.
-use Prim.Native.Nat.{ℕ, _+_, _*_}
+use Prim.Native.Nat.{ℕ, _+_, _*_, _^_, _/_, _%_}
 use mathlib.Core.Path.{_≡_}
 use mathlib.Core.List.{List}
 use Rattle.base.specs.Refusals.{refusalNumber}
@@ -26,9 +26,27 @@ keptBytes = 8 * (4 + 8 * (65 * 4))
 abbrev pub settingsWith : ℕ → ℕ → ℕ → ℕ → Settings
 settingsWith cap gap window horizon = record { cap = cap; gap = gap; window = window; horizon = horizon }
 
+-- an event by its numbers, in C's order
+abbrev pub eventWith : ℕ → ℕ → ℕ → ℕ → ℕ → ℕ → ℕ → ℕ → Event
+eventWith kind slot flags at span id len acked =
+    record {
+      now = at;
+      span = span;
+      id = id;
+      len = len;
+      acked = acked;
+      kind = kind;
+      slot = slot;
+      flags = flags;
+    }
+
 -- an answer of the record, over C
 abbrev pub answerReply : rules.Reply → Reply
 answerReply x = record { number = numberOf x; value = valueOf x }
+
+-- an answer in one word: its upper half is the number, its lower half the value
+abbrev pub splitReply : ℕ → Reply
+splitReply w = record { number = w / 2 ^ 32; value = w % 2 ^ 32 }
 
 -- an event: what C gets is the answer of the rules' step, and the words are as rowpeer's contract has them
 abbrev pub StepsHere : List ℕ → List (List (List ℕ)) → List (List (List ℕ)) → Reply → Event → Type 0

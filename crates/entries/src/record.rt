@@ -4,17 +4,19 @@ ghost use mathlib.Core.Path.{_≡_};
 ghost use mathlib.Core.Bool.{cond};
 ghost use mathlib.Core.List.{[]};
 ghost use lib.ListN.{length};
-ghost use Rattle.rules.specs.Step.{allowed, freshRecord, recordOf};
+ghost use Rattle.rules.specs.Step.{allowed, freshRecord, recordOf, step};
 ghost use Rattle.eventfile.specs.File.{parseOf};
 ghost use Rattle.standing.specs.Standing.{slotWritten, slotOut};
+ghost use Rattle.cells.specs.Cells.{eventIn};
 ghost use Rattle.cells.specs.Code.{settingsRow};
-ghost use Rattle.rowpeer.specs.Record.{recordIn, recordRows, eventWith};
+ghost use Rattle.rowpeer.specs.Record.{recordIn, recordRows, Tells};
 ghost use Rattle.entries.specs.Events.{writtenReply};
 ghost use Rattle.entries.specs.Record.{keptBytes, settingsWith, answerReply, noneTaken, TakenHere};
-ghost use Rattle.entries.specs.Record.{StepsHere, takenBy};
+ghost use Rattle.entries.specs.Record.{eventWith, splitReply, StepsHere, takenBy};
 use crate::Reply;
 use base::types::Refusal;
 use eventfile::types::Parse;
+use rules::types::Event;
 use rules::types::Settings;
 
 // An answer in one word has its value below this, and its number above.
@@ -36,6 +38,16 @@ fn reply_of(reply: rules::types::Reply) -> Reply
     Reply {
         number: turns::reply::number_of(reply),
         value: turns::reply::value_of(reply),
+    }
+}
+
+// An answer in one word, as a number and a value.
+fn split(w: u64) -> Reply
+    ensures { λ r. ⌜ r ≡ splitReply w ⌝ }
+{
+    Reply {
+        number: w / WORD_VALUES,
+        value: w % WORD_VALUES,
     }
 }
 
@@ -87,11 +99,32 @@ pub extern "C" fn hess_record_event(
     ensures { λ r. ⌜ StepsHere (now (settings .entry)) (now (slots .entry)) (now (slots .exit)) r
         (eventWith kind slot flags at span id len acked) ⌝ }
 {
-    let w = rowpeer::record::tell(settings, slots, kind, slot, flags, at, span, id, len, acked);
-    Reply {
-        number: w / WORD_VALUES,
-        value: w % WORD_VALUES,
-    }
+    let e = Event {
+        now: at,
+        span: span,
+        id: id,
+        len: len,
+        acked: acked,
+        kind: kind,
+        slot: slot,
+        flags: flags,
+    };
+    let words = cells::events::event_row(e);
+    split(rowpeer::record::tell(settings, slots, &words))
+}
+
+// The same, by the four words of an event; the answer is one word too: the refusal number in its upper half, the value
+// in its lower.
+#[no_mangle]
+pub extern "C" fn hess_record_words(
+    settings: &[u64; 4],
+    slots: &mut [[[u64; 4]; 65]; 8],
+    event: &[u64; 4],
+) -> u64
+    ensures { λ r. ⌜ Tells (now (settings .entry)) (now (slots .entry)) (now (slots .exit)) r
+        (step (recordIn (now (settings .entry)) (now (slots .entry))) (eventIn (now (event .entry)))) ⌝ }
+{
+    rowpeer::record::tell(settings, slots, event)
 }
 
 // No event could be read.
@@ -122,18 +155,8 @@ pub extern "C" fn hess_record_bytes(
         Parse::End => none_taken(Refusal::Cut),
         Parse::Refused(why, kind) => none_taken(why),
         Parse::Event(e, next) => {
-            let w = rowpeer::record::tell(
-                settings,
-                slots,
-                e.kind,
-                e.slot,
-                e.flags,
-                e.now,
-                e.span,
-                e.id,
-                e.len,
-                e.acked,
-            );
+            let words = cells::events::event_row(e);
+            let w = rowpeer::record::tell(settings, slots, &words);
             Taken {
                 number: w / WORD_VALUES,
                 value: w % WORD_VALUES,

@@ -52,10 +52,17 @@ outcomeOf delivered = cond delivered one nought
 abbrev pub nextRatio : Float → Float → Float
 nextRatio ratio sample = add binary64 ratio (mul binary64 alpha (sub binary64 sample ratio))
 
--- (1.0 / next.max(0.01)).clamp(1.0, 100.0)
+-- (1.0 / ratio).clamp(1.0, 100.0): the ETX that a delivery ratio stands for
+abbrev pub invertedOf : Float → Float
+invertedOf ratio = clampOf (div binary64 one ratio) one hundred
+
+-- (1.0 / next.max(0.01)).clamp(1.0, 100.0), next being the ratio after the outcome
+abbrev pub averagedOf : Float → Bool → Float
+averagedOf ratio delivered = invertedOf (maxOf (nextRatio ratio (outcomeOf delivered)) hundredth)
+
+-- from the ETX before it
 unfoldable pub foldOf : Float → Bool → Float
-foldOf etx delivered =
-    clampOf (div binary64 one (maxOf (nextRatio (ratioOf etx) (outcomeOf delivered)) hundredth)) one hundred
+foldOf etx delivered = averagedOf (ratioOf etx) delivered
 
 -- "ETX stays within 1 and 100": so it is finite and no NaN. `fold-within` of proofs/WithinLaws.antt shows it of every
 -- fold.

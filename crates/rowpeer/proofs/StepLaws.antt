@@ -116,3 +116,8 @@ module _ {t : List ℕ} {a b : List (List (List ℕ))} (e : Event) {x : Reply} (
         (let d : w % 2 ^ 32 ≡ valueOf x = omega arith in d ∙ ap valueOf (h .answer)),
         subst (λ (y : Reply). Steps t a b y (step (recordIn t a) e)) (h .answer) h,
       )
+
+-- the same of an event by another name
+pub tells-as : (t : List ℕ) (a b : List (List (List ℕ))) (w : ℕ) {e f : Event} → e ≡ f
+    → Tells t a b w (step (recordIn t a) e) → Tells t a b w (step (recordIn t a) f)
+tells-as t a b w q h = subst (λ (e : Event). Tells t a b w (step (recordIn t a) e)) q h

@@ -6,7 +6,6 @@ use mathlib.Core.Bool.{true}
 use mathlib.Core.List.{List, map}
 use Rattle.base.specs.declared.types.Refusal.the-variants as refusal
 use Rattle.rules.specs.Event.{numberOf, valueOf}
-use Rattle.rules.specs.declared.types.Event.{Event}
 use Rattle.rules.specs.declared.types.Record.{Record}
 use Rattle.rules.specs.declared.types.Reply.{Reply}
 use Rattle.rules.specs.declared.types.Reply.the-variants as reply
@@ -37,20 +36,6 @@ pub record Steps (t : List ℕ) (a b : List (List (List ℕ))) (x : Reply) (s : 
   pub next : recordIn t b ≡ s .next
   pub coded : AreCoded a → AreCoded b
   pub left : isRefused x ≡ true → b ≡ a
-
--- an event by its numbers, in C's order
-abbrev pub eventWith : ℕ → ℕ → ℕ → ℕ → ℕ → ℕ → ℕ → ℕ → Event
-eventWith kind slot flags at span id len acked =
-    record {
-      now = at;
-      span = span;
-      id = id;
-      len = len;
-      acked = acked;
-      kind = kind;
-      slot = slot;
-      flags = flags;
-    }
 
 -- an event whose answer is one word: its upper half is the refusal number of s, its lower half the value; and the words
 -- of the slots are as `Steps` has them

@@ -5,9 +5,10 @@ ghost use lib.ListN.{replicate};
 ghost use Rattle.rules.specs.Rules.{emptySlot, refusals};
 ghost use Rattle.rules.specs.Step.{allowed, freshRecord, recordOf, step};
 ghost use Rattle.turns.specs.Turns.{verdictOf};
+ghost use Rattle.cells.specs.Cells.{eventIn};
 ghost use Rattle.cells.specs.Code.{settingsRow};
 ghost use Rattle.rows.specs.Encode.{slotRows};
-ghost use Rattle.rowpeer.specs.Record.{recordIn, recordRows, beyondOf, eventWith, Steps, Tells};
+ghost use Rattle.rowpeer.specs.Record.{recordIn, recordRows, beyondOf, Steps, Tells};
 use crate::choice::chosen;
 use crate::choice::slots;
 use base::types::Refusal;
@@ -78,33 +79,13 @@ pub fn event(t: &[u64; 4], rec: &mut [[[u64; 4]; ROWS]; PATH_MAX_PER_PEER], e: E
     rowturns::on_rows(t, &mut rec[i], e)
 }
 
-// One event by its numbers, which are handed on one by one and never as a struct; the answer is one word: the refusal
-// number times 2^32, and the value.
-pub fn tell(
-    t: &[u64; 4],
-    rec: &mut [[[u64; 4]; ROWS]; PATH_MAX_PER_PEER],
-    kind: u8,
-    slot: u8,
-    flags: u8,
-    at: u64,
-    span: u64,
-    id: u32,
-    len: u32,
-    acked: u32,
-) -> u64
+// One event by its words; the answer is one word: the refusal number times 2^32, and the value. A struct would be handed
+// over field by field.
+pub fn tell(t: &[u64; 4], rec: &mut [[[u64; 4]; ROWS]; PATH_MAX_PER_PEER], w: &[u64; 4]) -> u64
     ensures { λ r. ⌜ Tells (now (t .entry)) (now (rec .entry)) (now (rec .exit)) r
-        (step (recordIn (now (t .entry)) (now (rec .entry))) (eventWith kind slot flags at span id len acked)) ⌝ }
+        (step (recordIn (now (t .entry)) (now (rec .entry))) (eventIn (now (w .entry)))) ⌝ }
 {
     slots(rec);
-    let e = Event {
-        now: at,
-        span: span,
-        id: id,
-        len: len,
-        acked: acked,
-        kind: kind,
-        slot: slot,
-        flags: flags,
-    };
+    let e = cells::events::event_in(*w);
     turns::reply::word_of(event(t, rec, e))
 }

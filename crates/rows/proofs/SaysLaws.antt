@@ -309,6 +309,13 @@ module _ (p : List (List ℕ)) (n : length p ≡ 65) where
         ap (sizesIn (row p 16)) f ∙ ap (λ (x : MaybeLen). record { seek = pathIn p .sizes .seek; proven = x }) (e .1),
       ))
 
+  -- the sizes
+  pub put-sizes : {s : Sizes} {a b r : List ℕ} → (a ≡ seekRow s) × (b ≡ provenRow s) × (sizesIn a b ≡ s)
+      → r ≡ firstTwo b (row p 17) → Says p (set (set p 16 a) 17 r) (withSizes (pathIn p) s)
+  unfolding provenRow sizesIn
+  put-sizes {s} {a} {b} {r} e f =
+      says-sizes p n a r (λ c. (e .0, f ∙ (λ j. firstTwo (e .1 j) (coded-sizes c .1 j))), ap (sizesIn a) f ∙ e .2)
+
   -- the search
   pub put-seek : {x : Sizes} {a b r : List ℕ} → (a ≡ seekRow x) × (b ≡ provenRow x) × (sizesIn a b ≡ x)
       → r ≡ firstOne b (row p 17) → Says p (set (set p 16 a) 17 r) (withSeekIn (pathIn p) (x .seek))

@@ -31,11 +31,13 @@ pub fn set_sizes(p: &mut [[u64; 4]; ROWS], s: Sizes)
     ensures { λ r. ⌜ Says (now (p .entry)) (now (p .exit)) (withSizes (pathIn (now (p .entry))) s) ⌝ }
 {
     rows(p);
+    let u = p[17];
     let t = sizes_rows(s);
     let a = t.a;
     let b = t.b;
+    let v = first_two(b, u);
     p[16] = a;
-    p[17] = b;
+    p[17] = v;
 }
 
 // Stores the proven size.

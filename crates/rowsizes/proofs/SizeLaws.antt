@@ -128,8 +128,9 @@ module _ (a : List (List ℕ)) (e : Event) {l : Label} (f : l ≡ slotIn a .labe
     pub search-sent : {b c : List (List ℕ)} {n id : ℕ} {o i : Ids} {t : Sizes} → m ≡ len.Some n → n ≤ 65535
         → o ≡ pathIn a .ids → id ≡ takenOf (o .«next_id») (e .id) → i ≡ nextIds o id
         → t ≡ sentSearch s (e .now) n id → Says a b (withIds (pathIn a) (withId (pathIn a .ids) 0 (i .«next_id»)))
-        → Says b c (withSizes (pathIn b) t)
+        → Says b c (withSeekIn (pathIn b) (t .seek))
         → Turns a c (reply.Id id) (sought (seekSizeOf (pathIn a) (slotIn a .label .full) (e .now)))
+    unfolding sentSearch
     search-sent {b} {c} {n} {id} {o} {i} {t} z v q r w x y₀ u =
         let y : Says a b (withIds (pathIn a) i) =
         says-after 0 (λ (k : Ids). k .«next_id») (w ∙ ap (λ (k : Ids). nextIds k id) q) refl y₀ in
@@ -142,7 +143,8 @@ module _ (a : List (List ℕ)) (e : Event) {l : Label} (f : l ≡ slotIn a .labe
         turns-as
         (turns-by
         (says-as (says-then y u)
-        (ap (λ (p : Liveness). withSizes p t) (y .path) ∙ (λ j. withSizes (withIds (pathIn a) (w′ j)) (x′ j))))
+        (ap (λ (p : Liveness). withSeekIn p (t .seek)) (y .path)
+        ∙ (λ j. withSeekIn (withIds (pathIn a) (w′ j)) (x′ j .seek))))
         (ap reply.Id r′)
         refl)
         (ap (turnBy (slotIn a)) (sent (pathIn a) (e .now) n (e .id) v) ∙ named (here z))

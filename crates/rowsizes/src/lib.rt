@@ -54,8 +54,9 @@ pub fn search(p: &mut [[u64; 4]; ROWS], e: Event) -> Reply
     let after = ring::ids::next_ids(before, id);
     let later = after.next_id;
     let sent = seek::search::seek_send(old, e.now, len, id);
+    let seek = sent.seek;
     set_id(p, 0, later);
-    set_sizes(p, sent);
+    set_seek(p, seek);
     Reply::Id(id)
 }
 

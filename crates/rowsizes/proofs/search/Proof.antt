@@ -41,11 +41,19 @@ seek-send-requires c κs = search needs
 set-id-requires : tie.Need-set-id-requires
 set-id-requires c κs = search needs
 
-set-sizes-requires : tie.Need-set-sizes-requires
-set-sizes-requires c κs = search needs
+set-seek-requires : tie.Need-set-seek-requires
+set-seek-requires c κs = search needs
 
 returns-3 : tie.Need-returns-3
-returns-3 c = search-sent _ (c .before .before .before .before .before .before .before .before .before .before .before .before .before .before .before .before .before .before .args .e) (c .before .before .before .before .before .before .before .before .before .before .before .before .before .before .before .before .label .ensures) (c .before .before .before .before .before .before .before .before .before .before .before .before .before .before .before .if1 .left) (c .before .before .before .before .before .before .before .before .before .before .before .before .before .sizes .ensures) (c .before .before .before .before .before .before .before .before .before .before .before .before .seek-size .ensures) (c .before .before .before .before .before .before .before .before .before .before .proposal .given .1) (search needs) (c .before .before .before .before .before .before .before .ids .ensures) (c .before .before .before .before .before .before .taken .ensures) (c .before .before .before .before .before .next-ids .ensures) (c .before .before .before .before .seek-send .ensures) (c .before .before .set-id .ensures) (c .set-sizes .ensures)
+returns-3 c =
+    let s = c .before .before .before .before .before in
+    let i = s .before .before .before in
+    let m = i .before .before .before in
+    let z = m .before .before .before in
+    search-sent _ (z .before .before .before .before .before .args .e) (z .before .before .before .label .ensures) (z .before .before .if1 .left)
+    (z .sizes .ensures) (m .before .before .seek-size .ensures) (m .proposal .given .1) (search needs) (i .ids .ensures)
+    (s .before .before .taken .ensures) (s .before .next-ids .ensures) (s .seek-send .ensures)
+    (c .before .before .set-id .ensures) (c .set-seek .ensures)
 
 pub search-spec : {M : Type 1} → statement M
 search-spec =
@@ -63,5 +71,5 @@ search-spec =
     next-ids-requires
     seek-send-requires
     set-id-requires
-    set-sizes-requires
+    set-seek-requires
     returns-3)

@@ -24,6 +24,9 @@ none-taken-requires-2 c κs = search needs
 enum-known-found-2 : tie.Need-enum-known-found-2
 enum-known-found-2 c = search needs
 
+event-row-requires : tie.Need-event-row-requires
+event-row-requires c κs = search needs
+
 tell-requires : tie.Need-tell-requires
 tell-requires c κs = search needs
 
@@ -34,7 +37,10 @@ returns-2 : tie.Need-returns-2
 returns-2 c = taken-bad _ _ _ _ _ _ (sym (c .before .before .before .before .record-at .ensures) ∙ c .before .before .found .given .1) (c .none-taken2 .ensures)
 
 returns-3 : tie.Need-returns-3
-returns-3 c = taken-event _ _ _ _ _ _ _ (sym (c .before .before .before .before .before .record-at .ensures) ∙ c .before .before .before .found2 .given .1) (c .tell .ensures)
+returns-3 c =
+    let w = c .before .before .before in
+    taken-event _ _ _ _ _ _ _ (w .event-row .ensures .1)
+    (sym (w .before .before .before .before .record-at .ensures) ∙ w .before .before .found2 .given .1) (c .tell .ensures)
 
 pub hess-record-bytes-spec : {M : Type 1} → statement M
 hess-record-bytes-spec =
@@ -46,6 +52,7 @@ hess-record-bytes-spec =
     enum-known-found
     none-taken-requires-2
     enum-known-found-2
+    event-row-requires
     tell-requires
     returns
     returns-2
