@@ -3,28 +3,31 @@
 use Prim.Native.Nat.{ℕ, suc, _+_, _<_, _≤_}
 use mathlib.Core.Path.{_≡_, refl, ap, sym, _∙_}
 use mathlib.Core.Bool.{Bool, true, false}
-use mathlib.Core.List.{List, [], _∷_, _++_, map, foldl}
+use mathlib.Core.List.{List, [], _∷_, _++_, map}
 use native.Mathlib.Numerals.{add-one}
 use native.Mathlib.Omega.{arith}
 use lib.Ieee.{Float}
 use lib.ListN.{length, getD, set, take, length-set}
 use lib.Seq.{take-suc, take-all, take-suc-set}
 use Rattle.base.specs.Seq.{every, keep}
-use Rattle.base.proofs.Cases.{on-flag, never}
-use Rattle.base.proofs.KeepLaws.{map-same}
-use Rattle.base.proofs.ScanLaws.{Folding, folding-end, map-append}
+use Rattle.base.proofs.Cases.{never}
+use Rattle.base.proofs.ScanLaws.{map-append}
 use Rattle.select.specs.Media.{speedOf}
-use Rattle.select.specs.Rivals.{placed, byScore, byMedium}
+use Rattle.select.specs.Rivals.{placed}
 use Rattle.select.specs.Choice.{limitOf, orElse, pickedOf, slotOf, bestOf}
 use Rattle.select.specs.Passes.{
+  Want,
   lacksOf,
-  betterOf,
   gateOf,
+  takesOf,
+  beforeOf,
   firstTaken,
   bidOf,
   noLead,
-  scoreStep,
-  mediumStep,
+  leadOf,
+  byBidScore,
+  byBidMedium,
+  firstLead,
   isOn,
   isPreferred,
   isQuicker,
@@ -47,12 +50,12 @@ use Rattle.select.specs.declared.types.BestAnswer.the-variants as best
 use Rattle.select.specs.declared.passes.Gate.{Gate}
 use Rattle.select.specs.declared.passes.Bid.{Bid}
 use Rattle.select.specs.declared.passes.Lead.{Lead}
-use Rattle.select.proofs.ScanLaws.{scan-fold}
+use Rattle.select.proofs.MapLaws.{keep-map, first-map}
 use Rattle.select.proofs.PickLaws.{picked-preferred, picked-plain, picked-timed, best-score}
 
--- ---- the loops
+-- ---- the loop that makes the bids
 
--- the bids of a field
+-- the first i are made
 pub record Bidding (g : Gate) (l : List Rival) (n : ℕ) (out : List Bid) (i : ℕ) : Type 0 where
   pub from : length l ≡ n
   pub long : length out ≡ n
@@ -83,61 +86,36 @@ module _ {g : Gate} {l : List Rival} {n : ℕ} {out : List Bid} where
       ∙ s .done
       ∙ ap (map (bidOf g)) (take-all i l (omega (arith, s .from)))
 
--- a scan over bids
-module _ {p : Bid → Bool} {step : Lead → Bid → Lead} {l : List Bid} {f : Lead} where
-  pub leading-start : length l ≡ 8 → f ≡ noLead → Folding p (λ (b : Bid). b) step noLead l 8 f 0
-  leading-start h e = record { long = h; upto = omega arith; done = e }
-
-  pub leading-end : {i : ℕ} → Folding p (λ (b : Bid). b) step noLead l 8 f i → 8 ≤ i → f ≡ foldl step noLead (keep p l)
-  leading-end s h = folding-end s h ∙ ap (foldl step noLead) (map-same (keep p l))
-
--- ---- what they find
+-- ---- what the scans find
 
 -- what the scans over bids keep of a rival that is found
 abbrev pub leadIn : MaybeRival → Lead
 leadIn None = noLead
 leadIn (Some r) = record { score = r .score; index = r .index; speed = speedOf (r .medium); found = true }
 
--- the fold over the bids that are taken
-lead-fold : (bid : Rival → Bid) (step : Lead → Bid → Lead) (before : Rival → Rival → Bool) (p : Bid → Bool)
-    → ((f : MaybeRival) (r : Rival) → step (leadIn f) (bid r) ≡ leadIn (betterOf before f r))
-    → (f : MaybeRival) (l : List Rival)
-    → foldl step (leadIn f) (keep p (map bid l)) ≡ leadIn (foldl (betterOf before) f (keep (λ r. p (bid r)) l))
-lead-fold bid step before p turn f [] = refl
-lead-fold bid step before p turn f (r ∷ l) =
-    on-flag (p (bid r))
-    (λ h.
-    rw h
-    (ap (λ (x : Lead). foldl step x (keep p (map bid l))) (turn f r)
-    ∙ lead-fold bid step before p turn (betterOf before f r) l))
-    (λ h. rw h (lead-fold bid step before p turn f l))
+-- the first of the bids that are taken, where tests and orders see of a bid what they see of its rival
+module _ (g : Gate) (w : Want) (before : Bid → Bid → Bool) (p : Bid → Bool) where
+  lead-taken : ((r : Rival) → p (bidOf g r) ≡ takesOf w r)
+      → ((a b : Rival) → before (bidOf g a) (bidOf g b) ≡ beforeOf w a b) → (l : List Rival)
+      → firstLead before (keep p (map (bidOf g) l)) ≡ leadIn (firstTaken w l)
+  lead-taken tests orders l =
+      ap (firstLead before) (keep-map (bidOf g) p (takesOf w) tests l)
+      ∙ first-map (bidOf g) before (beforeOf w) orders leadIn None Some leadOf (λ r. refl) (keep (takesOf w) l)
 
-module _ (g : Gate) where
-  score-turn : (f : MaybeRival) (r : Rival) → scoreStep (leadIn f) (bidOf g r) ≡ leadIn (betterOf byScore f r)
-  score-turn None r = refl
-  score-turn (Some a) r = on-flag (byScore r a) (λ h. rw h) (λ h. rw h)
+module _ (g : Gate) (l : List Rival) where
+  pub best-lead : bestLead (map (bidOf g) l) ≡ leadIn (firstTaken (Scored g) l)
+  unfolding bestLead
+  best-lead = lead-taken g (Scored g) byBidScore isOn (λ r. refl) (λ a b. refl) l
 
-  medium-turn : (f : MaybeRival) (r : Rival) → mediumStep (leadIn f) (bidOf g r) ≡ leadIn (betterOf byMedium f r)
-  medium-turn None r = refl
-  medium-turn (Some a) r = on-flag (byMedium r a) (λ h. rw h) (λ h. rw h)
+  preferred-lead : (limit : Float) → preferredLead limit (map (bidOf g) l) ≡ leadIn (firstTaken (Preferred g limit) l)
+  unfolding preferredLead
+  preferred-lead limit = lead-taken g (Preferred g limit) byBidScore (isPreferred limit) (λ r. refl) (λ a b. refl) l
 
-  module _ (l : List Rival) where
-    pub best-lead : bestLead (map (bidOf g) l) ≡ leadIn (firstTaken (Scored g) l)
-    unfolding bestLead
-    best-lead = lead-fold (bidOf g) scoreStep byScore isOn score-turn None l ∙ ap leadIn (scan-fold (Scored g) l)
-
-    preferred-lead : (limit : Float) → preferredLead limit (map (bidOf g) l) ≡ leadIn (firstTaken (Preferred g limit) l)
-    unfolding preferredLead
-    preferred-lead limit =
-        lead-fold (bidOf g) scoreStep byScore (isPreferred limit) score-turn None l
-        ∙ ap leadIn (scan-fold (Preferred g limit) l)
-
-    quicker-lead : (limit : Float) (only : Bool) (m : Medium)
-        → quickerLead limit only (speedOf m) (map (bidOf g) l) ≡ leadIn (firstTaken (Quicker g limit only m) l)
-    unfolding quickerLead
-    quicker-lead limit only m =
-        lead-fold (bidOf g) mediumStep byMedium (isQuicker limit only (speedOf m)) medium-turn None l
-        ∙ ap leadIn (scan-fold (Quicker g limit only m) l)
+  quicker-lead : (limit : Float) (only : Bool) (m : Medium)
+      → quickerLead limit only (speedOf m) (map (bidOf g) l) ≡ leadIn (firstTaken (Quicker g limit only m) l)
+  unfolding quickerLead
+  quicker-lead limit only m =
+      lead-taken g (Quicker g limit only m) byBidMedium (isQuicker limit only (speedOf m)) (λ r. refl) (λ a b. refl) l
 
 -- ---- the choice
 

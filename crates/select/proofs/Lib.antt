@@ -1,5 +1,6 @@
 -- What the proofs of the functions share, and the laws of the choice.
 mod PlaceLaws
+mod MapLaws
 mod ScanLaws
 pub mod OrderLaws
 mod RankLaws

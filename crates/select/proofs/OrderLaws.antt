@@ -1,46 +1,55 @@
--- The orders of rivals (specs/Rivals.antt) are strict: of two at most one comes before the other, and not coming before
--- goes along. Of two with different indices one comes before the other.
+-- The orders of rivals (specs/Rivals.antt) and of bids (specs/Passes.antt) are strict: of two at most one comes before
+-- the other, and not coming before goes along. Of two rivals with different indices one comes before the other.
 -- Assumes nothing.
 use Prim.Native.Nat.{ℕ}
-use mathlib.Core.Path.{_≡_, refl, ap, _∙_}
+use mathlib.Core.Path.{_≡_, refl, ap}
 use mathlib.Core.Bool.{Bool, true, false, not, cond, _&&_, _||_, Bool·beq}
 use native.Mathlib.Omega.{arith}
 use borrow.Author.Tests.{lt-ltb, le-ltb, ltb-false, eq-eqb, ne-eqb}
 use lib.Dec.{ltb, eqb}
+use lib.Ieee.{Float}
 use Rattle.base.proofs.Cases.{on-order, never}
 use Rattle.base.proofs.FirstLaws.{Strict, by-least, by-greatest, strict-then, strict-same}
 use Rattle.total.specs.Values.{totalOf}
 use Rattle.total.proofs.StrictLaws.{total-strict}
 use Rattle.select.specs.Media.{speedOf}
 use Rattle.select.specs.Rivals.{byTier, byScore, byMedium, tripOf, byTrip}
+use Rattle.select.specs.Passes.{byBidScore, byBidMedium}
 use Rattle.select.specs.declared.types.Rival.{Rival}
+use Rattle.select.specs.declared.passes.Bid.{Bid}
 
 pub tier-strict : Strict byTier
 tier-strict = by-greatest (λ (r : Rival). r .tier)
 
-index-strict : Strict (λ (a b : Rival). ltb (a .index) (b .index))
-index-strict = by-least (λ (r : Rival). r .index)
-
 -- ---- by score, then index
-
-less-strict : Strict (λ (a b : Rival). not (totalOf (b .score) (a .score)))
-less-strict =
-    record {
-      once = λ a b. total-strict .once (a .score) (b .score);
-      along = λ a b c. total-strict .along (a .score) (b .score) (c .score);
-    }
 
 not-not : (b : Bool) → not (not b) ≡ b
 not-not true = refl
 not-not false = refl
 
+module _ {A : Type 0} (score : A → Float) (index : A → ℕ) where
+  less-strict : Strict (λ (a b : A). not (totalOf (score b) (score a)))
+  less-strict =
+      record {
+        once = λ a b. total-strict .once (score a) (score b);
+        along = λ a b c. total-strict .along (score a) (score b) (score c);
+      }
+
+  -- of what has a score and an index
+  by-score : Strict
+      (λ (a b : A). not (totalOf (score b) (score a)) || (totalOf (score a) (score b) && ltb (index a) (index b)))
+  by-score =
+      strict-same
+      (λ a b.
+      ap (λ (t : Bool). not (totalOf (score b) (score a)) || (t && ltb (index a) (index b)))
+      (not-not (totalOf (score a) (score b))))
+      (strict-then less-strict (by-least index))
+
 pub score-strict : Strict byScore
-score-strict =
-    strict-same
-    (λ a b.
-    ap (λ (t : Bool). not (totalOf (b .score) (a .score)) || (t && ltb (a .index) (b .index)))
-    (not-not (totalOf (a .score) (b .score))))
-    (strict-then less-strict index-strict)
+score-strict = by-score (λ (r : Rival). r .score) (λ (r : Rival). r .index)
+
+pub bid-score-strict : Strict byBidScore
+bid-score-strict = by-score (λ (b : Bid). b .score) (λ (b : Bid). b .index)
 
 -- ---- by medium, score, index
 
@@ -54,10 +63,17 @@ levels m n t =
     (λ k. rw (le-ltb m n h, lt-ltb n m k, ne-eqb m n (omega arith)))
     (λ k. rw (le-ltb m n h, le-ltb n m k, eq-eqb m n (omega arith))))
 
+-- by a number, then by a strict order
+by-number : {A : Type 0} (key : A → ℕ) {next : A → A → Bool} → Strict next
+    → Strict (λ (a b : A). ltb (key a) (key b) || (eqb (key a) (key b) && next a b))
+by-number key {next} order =
+    strict-same (λ a b. levels (key a) (key b) (next a b)) (strict-then (by-least key) order)
+
 pub medium-strict : Strict byMedium
-medium-strict =
-    strict-same (λ a b. levels (speedOf (a .medium)) (speedOf (b .medium)) (byScore a b))
-    (strict-then (by-least (λ (r : Rival). speedOf (r .medium))) score-strict)
+medium-strict = by-number (λ (r : Rival). speedOf (r .medium)) score-strict
+
+pub bid-medium-strict : Strict byBidMedium
+bid-medium-strict = by-number (λ (b : Bid). b .speed) bid-score-strict
 
 -- ---- known RTT first, then RTT, index
 
@@ -76,11 +92,10 @@ pub trip-strict : Strict byTrip
 trip-strict =
     strict-same
     (λ a b.
-    let t : Bool = ltb (tripOf a) (tripOf b) || (not (ltb (tripOf b) (tripOf a)) && ltb (a .index) (b .index)) in
-    knowns (a .timed) (b .timed) t
-    ∙ ap (λ (s : Bool). (a .timed && not (b .timed)) || (Bool·beq (a .timed) (b .timed) && s))
-    (levels (tripOf a) (tripOf b) (ltb (a .index) (b .index))))
-    (strict-then (by-least (λ (r : Rival). unknown (r .timed))) (strict-then (by-least tripOf) index-strict))
+    knowns (a .timed) (b .timed)
+    (ltb (tripOf a) (tripOf b) || (eqb (tripOf a) (tripOf b) && ltb (a .index) (b .index))))
+    (strict-then (by-least (λ (r : Rival). unknown (r .timed)))
+    (by-number tripOf (by-least (λ (r : Rival). r .index))))
 
 -- ---- two of different indices are never level
 

@@ -2,10 +2,9 @@
 -- Assumes nothing.
 use mathlib.Core.Path.{_≡_, refl, ap, _∙_}
 use mathlib.Core.Bool.{Bool, not, cond}
-use mathlib.Core.List.{List, [], _∷_, map}
+use mathlib.Core.List.{List, map}
 use lib.Ieee.{Float, le}
-use Rattle.base.specs.Seq.{every, keep}
-use Rattle.base.specs.First.{headOf, unbeaten}
+use Rattle.base.specs.Seq.{keep}
 use Rattle.base.proofs.Cases.{on-flag}
 use Rattle.select.specs.Media.{quickerOf}
 use Rattle.select.specs.Rivals.{byTier, byScore, byMedium, byTrip}
@@ -34,69 +33,37 @@ use Rattle.select.specs.declared.types.Medium.{Medium}
 use Rattle.select.specs.declared.types.Rival.{Rival}
 use Rattle.select.specs.declared.types.MaybeRival.{MaybeRival}
 use Rattle.select.specs.declared.types.MaybeRival.the-variants.{None, Some}
-
--- ---- rivals of which each is changed, and tests that do not see it
-
-module _ (s : Rival → Rival) where
-  -- what is found, changed
-  abbrev foundBy : MaybeRival → MaybeRival
-  foundBy None = None
-  foundBy (Some r) = Some (s r)
-
-  module _ (p q : Rival → Bool) (same : (r : Rival) → p (s r) ≡ q r) where
-    every-by : (l : List Rival) → every p (map s l) ≡ every q l
-    every-by [] = refl
-    every-by (r ∷ l) = rw (same r) (on-flag (q r) (λ h. rw h (every-by l)) (λ h. rw h))
-
-    keep-by : (l : List Rival) → keep p (map s l) ≡ map s (keep q l)
-    keep-by [] = refl
-    keep-by (r ∷ l) =
-        rw (same r)
-        (on-flag (q r) (λ h. rw h (ap (λ (m : List Rival). s r ∷ m) (keep-by l))) (λ h. rw h (keep-by l)))
-
-    -- if any passes, only those that pass
-    any-by : (l : List Rival) → every (λ r. not (p r)) (map s l) ≡ every (λ r. not (q r)) l
-        → onlyAny p (map s l) ≡ map s (onlyAny q l)
-    any-by l e =
-        ap (λ (t : Bool). cond t (map s l) (keep p (map s l))) e
-        ∙ on-flag (noneIs q l) (λ h. rw h) (λ h. rw h (keep-by l))
-
-  module _ (before : Rival → Rival → Bool) (same : (a b : Rival) → before (s a) (s b) ≡ before a b) where
-    unbeaten-by : (l : List Rival) (x : Rival) → unbeaten before (map s l) (s x) ≡ unbeaten before l x
-    unbeaten-by l x = every-by (λ (y : Rival). not (before y (s x))) (λ (y : Rival). not (before y x))
-        (λ y. ap not (same y x)) l
-
-    firsts-by : (l : List Rival)
-        → keep (unbeaten before (map s l)) (map s l) ≡ map s (keep (unbeaten before l) l)
-    firsts-by l = keep-by (unbeaten before (map s l)) (unbeaten before l) (λ x. unbeaten-by l x) l
-
-    first-by : (l : List Rival) → firstBy before (map s l) ≡ foundBy (firstBy before l)
-    first-by l = ap (headOf None Some) (firsts-by l) ∙ head-by (keep (unbeaten before l) l)
-      where
-        head-by : (m : List Rival) → headOf None Some (map s m) ≡ foundBy (headOf None Some m)
-        head-by [] = refl
-        head-by (r ∷ m) = refl
-
-  or-by : (f : MaybeRival) (r : Rival) → orElse (foundBy f) (s r) ≡ foundBy (orElse f r)
-  or-by (Some a) r = refl
-  or-by None r = refl
+use Rattle.select.proofs.MapLaws.{every-map, keep-map, firsts-map, first-map}
 
 -- ---- the choice among slim rivals
 
 abbrev slims : List Rival → List Rival
 slims l = map slimOf l
 
+-- what is found, slim
 abbrev found : MaybeRival → MaybeRival
-found f = foundBy slimOf f
+found None = None
+found (Some r) = Some (slimOf r)
 
-kept : (p : Rival → Bool) → ((r : Rival) → p (slimOf r) ≡ p r) → (l : List Rival) → keep p (slims l) ≡ slims (keep p l)
-kept p same l = keep-by slimOf p p same l
+module _ (p : Rival → Bool) (same : (r : Rival) → p (slimOf r) ≡ p r) (l : List Rival) where
+  kept : keep p (slims l) ≡ slims (keep p l)
+  kept = keep-map slimOf p p same l
 
-only : (p : Rival → Bool) → ((r : Rival) → p (slimOf r) ≡ p r) → (l : List Rival)
-    → onlyAny p (slims l) ≡ slims (onlyAny p l)
-only p same l =
-    any-by slimOf p p same l
-    (every-by slimOf (λ (r : Rival). not (p r)) (λ (r : Rival). not (p r)) (λ r. ap not (same r)) l)
+  -- if any passes, only those that pass
+  only : onlyAny p (slims l) ≡ slims (onlyAny p l)
+  only =
+      ap (λ (t : Bool). cond t (slims l) (keep p (slims l)))
+      (every-map slimOf (λ (r : Rival). not (p r)) (λ (r : Rival). not (p r)) (λ r. ap not (same r)) l)
+      ∙ on-flag (noneIs p l) (λ h. rw h) (λ h. rw h kept)
+
+first-slim : (before : Rival → Rival → Bool) → ((a b : Rival) → before (slimOf a) (slimOf b) ≡ before a b)
+    → (l : List Rival)
+    → firstBy before (slims l) ≡ found (firstBy before l)
+first-slim before same l = first-map slimOf before before same found None Some Some (λ r. refl) l
+
+or-slim : (f : MaybeRival) (r : Rival) → orElse (found f) (slimOf r) ≡ found (orElse f r)
+or-slim (Some a) r = refl
+or-slim None r = refl
 
 ranked-slim : (l : List Rival) → rankedOf (slims l) ≡ slims (rankedOf l)
 unfolding rankedOf
@@ -105,7 +72,7 @@ ranked-slim l =
     (kept (λ (r : Rival). r .held) (λ r. refl) l)
     ∙ ap (λ (m : List Rival). onlyAny (λ (r : Rival). r .fits) (highOf m))
     (only (λ (r : Rival). r .pinned) (λ r. refl) (rivalsOf l))
-    ∙ ap (onlyAny (λ (r : Rival). r .fits)) (firsts-by slimOf byTier (λ a b. refl) (namedOf l))
+    ∙ ap (onlyAny (λ (r : Rival). r .fits)) (firsts-map slimOf byTier byTier (λ a b. refl) (namedOf l))
     ∙ only (λ (r : Rival). r .fits) (λ r. refl) (highOf (namedOf l))
 
 near-slim : (limit : Float) (l : List Rival) → nearOf limit (slims l) ≡ slims (nearOf limit l)
@@ -122,8 +89,8 @@ quick-slim : (m : Medium) (l : List Rival) (r : Rival)
 quick-slim m l r =
     ap (λ (k : List Rival). orElse (firstBy byMedium k) (slimOf r))
     (kept (λ (x : Rival). quickerOf (x .medium) m) (λ x. refl) l)
-    ∙ ap (λ (f : MaybeRival). orElse f (slimOf r)) (first-by slimOf byMedium (λ a b. refl) (quickOf m l))
-    ∙ or-by slimOf (firstBy byMedium (quickOf m l)) r
+    ∙ ap (λ (f : MaybeRival). orElse f (slimOf r)) (first-slim byMedium (λ a b. refl) (quickOf m l))
+    ∙ or-slim (firstBy byMedium (quickOf m l)) r
 
 quickest-slim : (near : List Rival) (least : Rival) (f : MaybeRival)
     → quickest (slims near) (slimOf least) (found f) ≡ found (quickest near least f)
@@ -136,7 +103,7 @@ scored-slim : (near : List Rival) (least : Rival)
     → amongScored (slims near) (slimOf least) ≡ found (amongScored near least)
 scored-slim near least =
     ap (λ (k : List Rival). quickest (slims near) (slimOf least) (firstBy byScore k)) (preferred-slim near)
-    ∙ ap (quickest (slims near) (slimOf least)) (first-by slimOf byScore (λ a b. refl) (preferredOf near))
+    ∙ ap (quickest (slims near) (slimOf least)) (first-slim byScore (λ a b. refl) (preferredOf near))
     ∙ quickest-slim near least (firstBy byScore (preferredOf near))
 
 among-slim : (ranked : List Rival) (margin : Float) (f : MaybeRival)
@@ -144,7 +111,7 @@ among-slim : (ranked : List Rival) (margin : Float) (f : MaybeRival)
 among-slim ranked margin (Some least) =
     ap (λ (k : List Rival). amongScored k (slimOf least)) (near-slim (limitOf least margin) ranked)
     ∙ scored-slim (nearOf (limitOf least margin) ranked) least
-among-slim ranked margin None = first-by slimOf byTrip (λ a b. refl) ranked
+among-slim ranked margin None = first-slim byTrip (λ a b. refl) ranked
 
 picked-slim : (l : List Rival) (margin : Float) → pickedOf (slims l) margin ≡ found (pickedOf l margin)
 unfolding pickedOf
@@ -152,7 +119,7 @@ picked-slim l margin =
     ap (λ (k : List Rival). amongRanked k margin (firstBy byScore (scoredOf k))) (ranked-slim l)
     ∙ ap (λ (k : List Rival). amongRanked (slims (rankedOf l)) margin (firstBy byScore k))
     (kept (λ (r : Rival). r .scored) (λ r. refl) (rankedOf l))
-    ∙ ap (amongRanked (slims (rankedOf l)) margin) (first-by slimOf byScore (λ a b. refl) (scoredOf (rankedOf l)))
+    ∙ ap (amongRanked (slims (rankedOf l)) margin) (first-slim byScore (λ a b. refl) (scoredOf (rankedOf l)))
     ∙ among-slim (rankedOf l) margin (firstBy byScore (scoredOf (rankedOf l)))
 
 slot-slim : (f : MaybeRival) → slotOf (found f) ≡ slotOf f

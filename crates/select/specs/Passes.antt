@@ -7,6 +7,7 @@ use mathlib.Core.List.{List, map, foldl}
 use lib.Dec.{ltb, eqb}
 use lib.Ieee.{Float, binary64, ofBits, mul, le}
 use Rattle.base.specs.Seq.{every, keep}
+use Rattle.base.specs.First.{firstOf}
 use Rattle.total.specs.Values.{totalOf}
 use Rattle.select.specs.Media.{speedOf, quickerOf}
 use Rattle.select.specs.Rivals.{isLong, byScore, byMedium, byTrip}
@@ -81,11 +82,6 @@ beforeOf (Preferred g limit) = byScore
 beforeOf (Quicker g limit only m) = byMedium
 beforeOf (Timed g) = byTrip
 
--- the better of what there is and one more
-abbrev pub betterOf : (Rival → Rival → Bool) → MaybeRival → Rival → MaybeRival
-betterOf before None r = Some r
-betterOf before (Some a) r = cond (before r a) (Some r) (Some a)
-
 -- what a scan finds
 abbrev pub firstTaken : Want → List Rival → MaybeRival
 firstTaken w l = firstBy (beforeOf w) (keep (takesOf w) l)
@@ -115,21 +111,17 @@ noLead = record { score = ofBits binary64 0; index = 0; speed = 0; found = false
 abbrev pub leadOf : Bid → Lead
 leadOf b = record { score = b .score; index = b .index; speed = b .speed; found = true }
 
--- a bid comes before what was found, by score and index
-abbrev pub leadsScore : Bid → Lead → Bool
-leadsScore a b = not (totalOf (b .score) (a .score)) || (totalOf (a .score) (b .score) && ltb (a .index) (b .index))
+-- by score, then index, by totalOrder
+abbrev pub byBidScore : Bid → Bid → Bool
+byBidScore a b = not (totalOf (b .score) (a .score)) || (totalOf (a .score) (b .score) && ltb (a .index) (b .index))
 
--- by medium, score and index
-abbrev pub leadsMedium : Bid → Lead → Bool
-leadsMedium a b = ltb (a .speed) (b .speed) || (eqb (a .speed) (b .speed) && leadsScore a b)
+-- by medium, score, index
+abbrev pub byBidMedium : Bid → Bid → Bool
+byBidMedium a b = ltb (a .speed) (b .speed) || (eqb (a .speed) (b .speed) && byBidScore a b)
 
--- the better of what a scan has found and one more
-abbrev pub scoreStep : Lead → Bid → Lead
-scoreStep f b = cond (not (f .found) || leadsScore b f) (leadOf b) f
-
--- the same by medium, score and index
-abbrev pub mediumStep : Lead → Bid → Lead
-mediumStep f b = cond (not (f .found) || leadsMedium b f) (leadOf b) f
+-- the first that none comes before, as found
+abbrev pub firstLead : (Bid → Bid → Bool) → List Bid → Lead
+firstLead before l = firstOf before noLead leadOf l
 
 -- the bids that the scans take: those that are on
 abbrev pub isOn : Bid → Bool
@@ -144,17 +136,17 @@ abbrev pub isQuicker : Float → Bool → ℕ → Bid → Bool
 isQuicker limit only speed b =
     ((b .on && le (b .score) limit) && (b .preferred || not only)) && (ltb speed 3 && ltb (b .speed) speed)
 
--- what the scans find: the least score
+-- what the scans find: the least score, then index
 unfoldable pub bestLead : List Bid → Lead
-bestLead l = foldl scoreStep noLead (keep isOn l)
+bestLead l = firstLead byBidScore (keep isOn l)
 
--- the least score of the preferred near a limit
+-- the first preferred one near a limit, by score, then index
 unfoldable pub preferredLead : Float → List Bid → Lead
-preferredLead limit l = foldl scoreStep noLead (keep (isPreferred limit) l)
+preferredLead limit l = firstLead byBidScore (keep (isPreferred limit) l)
 
--- the first over a quicker medium near a limit
+-- the first near a limit over a quicker medium, by medium, score, index
 unfoldable pub quickerLead : Float → Bool → ℕ → List Bid → Lead
-quickerLead limit only speed l = foldl mediumStep noLead (keep (isQuicker limit only speed) l)
+quickerLead limit only speed l = firstLead byBidMedium (keep (isQuicker limit only speed) l)
 
 -- what was found, else the other
 abbrev pub eitherLead : Lead → Lead → Lead
@@ -175,3 +167,18 @@ secondLead l limit best second = overLead l limit (second .found) (eitherLead se
 -- the pick where the best has a score
 unfoldable pub afterLead : List Bid → Lead → Float → Lead
 afterLead l best margin = secondLead l (limitOver best margin) best (preferredLead (limitOver best margin) l)
+
+-- ---- one turn of a scan
+
+-- the better of what there is and one more
+abbrev pub betterOf : (Rival → Rival → Bool) → MaybeRival → Rival → MaybeRival
+betterOf before None r = Some r
+betterOf before (Some a) r = cond (before r a) (Some r) (Some a)
+
+-- what was found, as a bid
+abbrev pub foundBid : Lead → Bid
+foundBid f = record { score = f .score; index = f .index; speed = f .speed; preferred = false; on = f .found }
+
+-- the better of what was found and one more
+abbrev pub betterLead : (Bid → Bid → Bool) → Lead → Bid → Lead
+betterLead before f b = cond (not (f .found) || before b (foundBid f)) (leadOf b) f

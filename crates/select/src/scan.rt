@@ -3,7 +3,7 @@ ghost use mathlib.Core.Path.{_≡_};
 ghost use mathlib.Core.List.{map};
 ghost use Rattle.select.specs.Rivals.{tripOf, byTrip};
 ghost use Rattle.select.specs.Passes.{betterOf, firstTaken, bidOf, noBid, noLead, leadOf};
-ghost use Rattle.select.specs.Passes.{leadsScore, leadsMedium, scoreStep, mediumStep, isPreferred, isQuicker};
+ghost use Rattle.select.specs.Passes.{byBidScore, byBidMedium, foundBid, betterLead, isPreferred, isQuicker};
 ghost use Rattle.select.specs.Passes.{bestLead, preferredLead, quickerLead};
 ghost use Rattle.select.specs.Passes.Want.{Timed};
 use crate::passes::*;
@@ -78,21 +78,21 @@ fn lead_of(b: Bid) -> Lead
 
 // The order by score, then index: strictly before.
 fn by_score(a: Bid, b: Lead) -> bool
-    ensures { λ k. ⌜ k ≡ leadsScore a b ⌝ }
+    ensures { λ k. ⌜ k ≡ byBidScore a (foundBid b) ⌝ }
 {
     !total::total(b.score, a.score) | (total::total(a.score, b.score) & (a.index < b.index))
 }
 
 // The order by medium, score, index: strictly before.
 fn by_medium(a: Bid, b: Lead) -> bool
-    ensures { λ k. ⌜ k ≡ leadsMedium a b ⌝ }
+    ensures { λ k. ⌜ k ≡ byBidMedium a (foundBid b) ⌝ }
 {
     (a.speed < b.speed) | ((a.speed == b.speed) & by_score(a, b))
 }
 
 // The better by score of what a scan has found and a bid that it takes.
 fn better_score(f: Lead, b: Bid) -> Lead
-    ensures { λ k. ⌜ k ≡ scoreStep f b ⌝ }
+    ensures { λ k. ⌜ k ≡ betterLead byBidScore f b ⌝ }
 {
     if !f.found | by_score(b, f) {
         lead_of(b)
@@ -103,7 +103,7 @@ fn better_score(f: Lead, b: Bid) -> Lead
 
 // The better by medium of what a scan has found and a bid that it takes.
 fn better_medium(f: Lead, b: Bid) -> Lead
-    ensures { λ k. ⌜ k ≡ mediumStep f b ⌝ }
+    ensures { λ k. ⌜ k ≡ betterLead byBidMedium f b ⌝ }
 {
     if !f.found | by_medium(b, f) {
         lead_of(b)

@@ -1,16 +1,16 @@
--- `select::scan::best_lead` meets its contract: the loop folds the bids that are on. The measure is the places left.
+-- `select::scan::best_lead` meets its contract: the loop finds the first of the bids that are on. The measure is the
+-- places left.
 -- Assumes nothing.
 use Prim.Native.Nat.{_-_}
-use Rattle.base.proofs.ScanLaws.{Folding, folding-take, folding-skip}
-use Rattle.select.specs.Passes.{noLead, isOn, scoreStep, bestLead}
-use Rattle.select.specs.declared.passes.Bid.{Bid}
-use Rattle.select.proofs.LeadLaws.{leading-start, leading-end}
+use Rattle.base.proofs.ScanLaws.{folding-take, folding-skip}
+use Rattle.select.specs.Passes.{noLead, isOn, byBidScore, betterLead, bestLead}
+use Rattle.select.proofs.ScanLaws.{Scanning, scanning-start, score-end}
 use borrow.Author.Needs.{needs}
 use Rattle.select.proofs.scan.best_lead.Statement.{statement}
 use Rattle.select.proofs.scan.best_lead.Tie as tie
 
 abbrev Inv-loop : tie.InvT-loop
-Inv-loop bids f₀ i₀ f i = Folding isOn (λ (b : Bid). b) scoreStep noLead bids 8 f i
+Inv-loop bids f₀ i₀ f i = Scanning isOn (betterLead byBidScore) noLead bids 8 f i
 
 abbrev μ-loop : tie.MeasureT-loop
 μ-loop bids f₀ i₀ f i = 8 - i
@@ -19,7 +19,7 @@ no-lead-requires : tie.Need-no-lead-requires Inv-loop μ-loop
 no-lead-requires c κs = search needs
 
 loop-holds : tie.Need-loop-holds Inv-loop μ-loop
-loop-holds c = leading-start (search needs) (c .no-lead .ensures)
+loop-holds c = scanning-start (search needs) (c .no-lead .ensures)
 
 mul-b : tie.Need-mul-b Inv-loop μ-loop
 mul-b c = search needs
@@ -48,7 +48,7 @@ loop-again-2 c = folding-skip _ (c .before .before .before .loop .inv) (search n
 
 returns : tie.Need-returns Inv-loop μ-loop
 unfolding bestLead
-returns c = leading-end (c .before .loop .inv) (search needs)
+returns c = score-end (c .before .loop .inv) (search needs)
 
 pub best-lead-spec : {M : Type 1} → statement M
 best-lead-spec =

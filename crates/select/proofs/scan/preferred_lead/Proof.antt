@@ -1,18 +1,17 @@
--- `select::scan::preferred_lead` meets its contract: the loop folds the bids that it takes. The measure is the
--- places left.
+-- `select::scan::preferred_lead` meets its contract: the loop finds the first of the bids that it takes. The measure
+-- is the places left.
 -- Assumes nothing.
 use Prim.Native.Nat.{_-_}
 use mathlib.Core.Path.{sym, _∙_}
-use Rattle.base.proofs.ScanLaws.{Folding, folding-take, folding-skip}
-use Rattle.select.specs.Passes.{noLead, isPreferred, scoreStep, preferredLead}
-use Rattle.select.specs.declared.passes.Bid.{Bid}
-use Rattle.select.proofs.LeadLaws.{leading-start, leading-end}
+use Rattle.base.proofs.ScanLaws.{folding-take, folding-skip}
+use Rattle.select.specs.Passes.{noLead, isPreferred, byBidScore, betterLead, preferredLead}
+use Rattle.select.proofs.ScanLaws.{Scanning, scanning-start, score-end}
 use borrow.Author.Needs.{needs}
 use Rattle.select.proofs.scan.preferred_lead.Statement.{statement}
 use Rattle.select.proofs.scan.preferred_lead.Tie as tie
 
 abbrev Inv-loop : tie.InvT-loop
-Inv-loop limit bids f₀ i₀ f i = Folding (isPreferred limit) (λ (b : Bid). b) scoreStep noLead bids 8 f i
+Inv-loop limit bids f₀ i₀ f i = Scanning (isPreferred limit) (betterLead byBidScore) noLead bids 8 f i
 
 abbrev μ-loop : tie.MeasureT-loop
 μ-loop limit bids f₀ i₀ f i = 8 - i
@@ -21,7 +20,7 @@ no-lead-requires : tie.Need-no-lead-requires Inv-loop μ-loop
 no-lead-requires c κs = search needs
 
 loop-holds : tie.Need-loop-holds Inv-loop μ-loop
-loop-holds c = leading-start (search needs) (c .no-lead .ensures)
+loop-holds c = scanning-start (search needs) (c .no-lead .ensures)
 
 mul-b : tie.Need-mul-b Inv-loop μ-loop
 mul-b c = search needs
@@ -54,7 +53,7 @@ loop-again-2 c = folding-skip _ (c .before .before .before .before .loop .inv) (
 
 returns : tie.Need-returns Inv-loop μ-loop
 unfolding preferredLead
-returns c = leading-end (c .before .loop .inv) (search needs)
+returns c = score-end (c .before .loop .inv) (search needs)
 
 pub preferred-lead-spec : {M : Type 1} → statement M
 preferred-lead-spec =

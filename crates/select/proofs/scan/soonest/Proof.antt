@@ -1,20 +1,18 @@
--- `select::scan::soonest` meets its contract: the loop folds the ranked, which finds the first of them. The measure is the places left.
+-- `select::scan::soonest` meets its contract: the loop finds the first of the ranked. The measure is the places left.
 -- Assumes nothing.
 use Prim.Native.Nat.{_-_}
 use mathlib.Core.Path.{sym, _∙_}
-use Rattle.base.proofs.ScanLaws.{Folding, folding-start, folding-take, folding-skip, folding-end}
+use Rattle.base.proofs.ScanLaws.{folding-start, folding-take, folding-skip}
 use Rattle.select.specs.Rivals.{byTrip}
 use Rattle.select.specs.Passes.{isRanked, betterOf}
-use Rattle.select.specs.Passes.Want.{Timed}
-use Rattle.select.specs.declared.types.Rival.{Rival}
 use Rattle.select.specs.declared.types.MaybeRival.the-variants.{None}
-use Rattle.select.proofs.ScanLaws.{scan-pass}
+use Rattle.select.proofs.ScanLaws.{Scanning, trip-end}
 use borrow.Author.Needs.{needs}
 use Rattle.select.proofs.scan.soonest.Statement.{statement}
 use Rattle.select.proofs.scan.soonest.Tie as tie
 
 abbrev Inv-loop : tie.InvT-loop
-Inv-loop g field f₀ i₀ f i = Folding (isRanked g) (λ (r : Rival). r) (betterOf byTrip) None field 8 f i
+Inv-loop g field f₀ i₀ f i = Scanning (isRanked g) (betterOf byTrip) None field 8 f i
 
 abbrev μ-loop : tie.MeasureT-loop
 μ-loop g field f₀ i₀ f i = 8 - i
@@ -52,7 +50,7 @@ loop-again-2 c = folding-skip _ (c .before .before .before .before .loop .inv) (
     (sym (c .before .ranks .ensures) ∙ c .if1 .left)
 
 returns : tie.Need-returns Inv-loop μ-loop
-returns c = scan-pass (Timed (c .before .before .args .g)) (c .before .before .args .t1) (folding-end (c .before .loop .inv) (search needs))
+returns c = trip-end (c .before .loop .inv) (search needs)
 
 pub soonest-spec : {M : Type 1} → statement M
 soonest-spec =
