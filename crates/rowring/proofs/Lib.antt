@@ -1,3 +1,4 @@
 -- Laws that the proofs of several functions cite.
+pub mod CloseLaws
 pub mod ShutLaws
 pub mod LateLaws

@@ -3,14 +3,16 @@
 use Prim.Native.Nat.{ℕ, _+_, _-_, _<_, _≤_, min, max}
 use mathlib.Core.Path.{_≡_, refl, ap, sym, _∙_}
 use mathlib.Core.List.{List, _++_}
-use mathlib.Core.Bool.{Bool, true, false, cond}
+use mathlib.Core.Bool.{Bool, true, false, not, cond, _&&_, and-true, and-false}
 use native.Mathlib.Omega.{arith}
-use lib.ListN.{length, getD, set, take, drop, replicate, take-append-drop}
-use lib.Seq.{length-take-le, take-all, take-append-seam, drop-set-lt, drop-drop}
+use borrow.Author.Tests.{eqb-true, eqb-false}
+use lib.Dec.{eqb}
+use lib.ListN.{length, getD, set, take, drop, replicate, length-set}
+use lib.Seq.{length-take-le, take-all, take-append-seam, getD-set-same, getD-set-other}
 use Rattle.base.specs.declared.types.MaybeId.{MaybeId}
 use Rattle.base.specs.declared.types.MaybeId.the-variants as id
-use Rattle.base.proofs.Cases.{on-order, cond-same}
-use Rattle.ring.specs.Ring.{isUsed, noSent, waiting, packed, takenOut, allCount, dropSince}
+use Rattle.base.proofs.Cases.{on-flag, on-order, cond-same, never}
+use Rattle.ring.specs.Ring.{isUsed, noSent, takenOut, allCount, dropSince}
 use Rattle.ring.specs.declared.types.Ids.{Ids}
 use Rattle.ring.specs.declared.types.Sent.{Sent}
 use Rattle.live.specs.Path.{withRing, withIds}
@@ -19,11 +21,11 @@ use Rattle.cells.specs.Cells.{withId}
 use Rattle.rows.specs.Parts.{moved}
 use Rattle.rows.specs.View.{pathIn}
 use Rattle.rows.specs.Says.{Says}
-use Rattle.rows.proofs.CloseLaws.{Closing, closing-start, closing-skip, closing-move, closing-end}
 use Rattle.rows.proofs.CloseLaws.{Clearing, clearing-start, clearing-next, clearing-end}
 use Rattle.rows.proofs.SaysLaws.{says-none, says-then, says-as}
 use Rattle.rows.proofs.ViewLaws.{ring-length}
-use Rattle.rowring.specs.Steps.{isDropped, pressed, freedFrom}
+use Rattle.rowring.specs.Steps.{isDropped, others, pressed, freedFrom}
+use Rattle.rowring.proofs.CloseLaws.{Closing, closing-start, closing-at, closing-skip, closing-move, closing-end}
 
 -- a part stored after others
 pub says-on : {a b c : List (List ℕ)} {q : Liveness} (f : Liveness → Liveness) → Says a b q → Says b c (f (pathIn b)) → Says a c (f q)
@@ -39,47 +41,65 @@ pub again : {a b c : List (List ℕ)} {l : List Sent} → Says a b (withRing (pa
 again {a} {b} {c} {l} s t =
     says-as (says-on (λ (v : Liveness). withRing v l) s t) (ap (λ (x : List Sent). withRing (pathIn a) x) (sym (ring-is t)))
 
--- the waiting probes of the first r places of a's ring stand at the front of b's, w of them; the rest is a's still
-pub record Shut (a b : List (List ℕ)) (w r : ℕ) : Type 0 where
+-- place r of a ring with the place `slot` freed, where the ring has x
+module _ (l : List Sent) (slot : ℕ) {r : ℕ} (h : r < length l) {x : Sent} (e : x ≡ getD l r noSent) where
+  -- a probe waits there if x does and it is not the one freed
+  left-used : isUsed (getD (set l slot noSent) r noSent) ≡ (x .used && not (eqb r slot))
+  left-used =
+      on-flag (eqb r slot)
+      (λ f. ap (λ (i : ℕ). isUsed (getD (set l i noSent) r noSent)) (sym (eqb-true r slot f))
+      ∙ ap isUsed (getD-set-same l r noSent noSent h)
+      ∙ sym (ap (λ (t : Bool). x .used && not t) f ∙ and-false (x .used)))
+      (λ f. ap isUsed (getD-set-other l slot r noSent noSent (eqb-false r slot f) ∙ sym e)
+      ∙ sym (ap (λ (t : Bool). x .used && not t) f ∙ and-true (x .used)))
+
+  -- where one does it is x
+  left-same : (x .used && not (eqb r slot)) ≡ true → getD (set l slot noSent) r noSent ≡ x
+  left-same g =
+      on-flag (eqb r slot)
+      (λ f. never g (ap (λ (t : Bool). x .used && not t) f ∙ and-false (x .used)))
+      (λ f. getD-set-other l slot r noSent noSent (eqb-false r slot f) ∙ sym e)
+
+-- of a's first r places the waiting probes but the one at `slot` stand at the front of b's, w of them; the rest is a's
+pub record Shut (a : List (List ℕ)) (slot : ℕ) (b : List (List ℕ)) (w r : ℕ) : Type 0 where
   pub says : Says a b (withRing (pathIn a) (pathIn b .ring))
-  pub ring : Closing isUsed (pathIn a .ring) 8 (pathIn b .ring) w r
-  pub back : drop w (pathIn b .ring) ≡ drop w (pathIn a .ring)
+  pub ring : Closing isUsed (set (pathIn a .ring) slot noSent) (pathIn a .ring) 8 (pathIn b .ring) w r
 
 -- nothing is moved yet
-pub shut-start : {a : List (List ℕ)} → length a ≡ 65 → Shut a a 0 0
-shut-start {a} h = record { says = says-none refl; ring = closing-start (ring-length a h); back = refl }
+pub shut-start : {a : List (List ℕ)} {slot : ℕ} → length a ≡ 65 → Shut a slot a 0 0
+shut-start {a} {slot} h =
+    let n = ring-length a h in
+    record { says = says-none refl; ring = closing-start (length-set (pathIn a .ring) slot noSent ∙ n) n }
 
-module _ {a b : List (List ℕ)} {w r : ℕ} (s : Shut a b w r) where
+module _ {a b : List (List ℕ)} {slot w r : ℕ} (s : Shut a slot b w r) where
   module _ (h : r < 8) {x : Sent} (e : x ≡ getD (pathIn b .ring) r noSent) where
-    -- a free place is passed by
-    pub shut-skip : x .used ≡ false → Shut a b w (r + 1)
-    shut-skip f = record { says = s .says; ring = closing-skip noSent (s .ring) h (ap isUsed (sym e) ∙ f); back = s .back }
+    -- the place is there
+    within : r < length (pathIn a .ring)
+    within = omega (arith, s .ring .same)
+
+    -- what is read is a's still
+    stood : x ≡ getD (pathIn a .ring) r noSent
+    stood = e ∙ closing-at noSent (s .ring)
+
+    -- a free place is passed by, and so is the one at `slot`
+    pub shut-skip : (x .used && not (eqb r slot)) ≡ false → Shut a slot b w (r + 1)
+    shut-skip f =
+        record { says = s .says; ring = closing-skip noSent (s .ring) h (left-used (pathIn a .ring) slot within stood ∙ f) }
 
     -- a waiting probe moves to the front
-    pub shut-move : {c : List (List ℕ)} → x .used ≡ true → Says b c (withRing (pathIn b) (moved (pathIn b .ring) r w))
-        → Shut a c (w + 1) (r + 1)
+    pub shut-move : {c : List (List ℕ)} → (x .used && not (eqb r slot)) ≡ true
+        → Says b c (withRing (pathIn b) (moved (pathIn b .ring) r w)) → Shut a slot c (w + 1) (r + 1)
     shut-move {c} f g =
-        let l = pathIn b .ring in
-        let q : pathIn c .ring ≡ set l w (getD l r noSent) = ring-is g in
-        let z : drop (w + 1) l ≡ drop (w + 1) (pathIn a .ring) =
-        sym (drop-drop 1 w l) ∙ ap (λ (y : List Sent). drop 1 y) (s .back) ∙ drop-drop 1 w (pathIn a .ring) in
-        record {
-          says = again (s .says) g;
-          ring = rw q (closing-move noSent (s .ring) h (ap isUsed (sym e) ∙ f));
-          back = ap (λ (y : List Sent). drop (w + 1) y) q ∙ drop-set-lt (w + 1) l w (getD l r noSent) (omega arith) ∙ z;
-        }
+        let l = pathIn a .ring in
+        let q : pathIn c .ring ≡ set (pathIn b .ring) w (getD (pathIn b .ring) r noSent) = ring-is g in
+        let u = left-used l slot within stood ∙ f in
+        record { says = again (s .says) g; ring = rw q (closing-move noSent (s .ring) h u (left-same l slot within stood f ∙ e)) }
 
   -- all places are seen
-  pub shut-end : 8 ≤ r → (w ≡ length (waiting (pathIn a .ring))) × Says a b (withRing (pathIn a) (pressed (pathIn a .ring)))
+  pub shut-end : 8 ≤ r → (w ≡ length (others slot (pathIn a .ring))) × Says a b (withRing (pathIn a) (pressed slot (pathIn a .ring)))
   shut-end h =
-      let k = s .ring in
-      let f : take w (pathIn b .ring) ≡ waiting (pathIn a .ring) = closing-end k h in
-      let m : w ≡ length (waiting (pathIn a .ring)) =
-      sym (length-take-le w (pathIn b .ring) (omega (arith, k .some, k .upto, k .long))) ∙ ap (λ (y : List Sent). length y) f in
-      let q : pathIn b .ring ≡ pressed (pathIn a .ring) =
-      sym (take-append-drop w (pathIn b .ring)) ∙ (λ i. f i ++ s .back i)
-      ∙ ap (λ (i : ℕ). waiting (pathIn a .ring) ++ drop i (pathIn a .ring)) m in
-      (m, says-as (s .says) (ap (λ (y : List Sent). withRing (pathIn a) y) q))
+      let k = closing-end (s .ring) h in
+      (k .0, says-as (s .says) (ap (λ (y : List Sent). withRing (pathIn a) y) (k .1)))
 
 -- of b's first k places those behind the first n are free, and all others are a's
 pub record Freed (a : List (List ℕ)) (n : ℕ) (b : List (List ℕ)) (k : ℕ) : Type 0 where
@@ -125,21 +145,19 @@ module _ {a b : List (List ℕ)} {n k : ℕ} (s : Freed a n b k) where
       let q : pathIn b .ring ≡ freedFrom n l = clearing-end noSent (s .ring) m ∙ (λ o. f o ++ replicate (j o) noSent) in
       says-as (s .says) (ap (λ (y : List Sent). withRing (pathIn a) y) q)
 
--- freed, pressed, and freed behind: closed up
-pub taken-out : {a b c d : List (List ℕ)} (slot : ℕ) {w : ℕ} {free : Sent} → free ≡ noSent
-    → Says a b (withRing (pathIn a) (set (pathIn a .ring) slot free))
-    → (w ≡ length (waiting (pathIn b .ring))) × Says b c (withRing (pathIn b) (pressed (pathIn b .ring)))
-    → Says c d (withRing (pathIn c) (freedFrom w (pathIn c .ring)))
-    → Says a d (withRing (pathIn a) (takenOut 8 (pathIn a .ring) slot))
-taken-out {a} {b} {c} {d} slot {w} {free} e f g h =
-    let l = pathIn b .ring in
-    let i : l ≡ set (pathIn a .ring) slot noSent = ring-is f ∙ ap (λ (y : Sent). set (pathIn a .ring) slot y) e in
-    let j : take (length (waiting l)) (pressed l) ≡ waiting l = take-append-seam (waiting l) (drop (length (waiting l)) l) in
-    let m : freedFrom w (pathIn c .ring) ≡ packed 8 l =
-    (λ o. freedFrom (g .0 o) (ring-is (g .1) o)) ∙ ap (λ (y : List Sent). y ++ replicate (8 - length (waiting l)) noSent) j in
-    let s = says-on (λ (v : Liveness). withRing v (pressed l)) f (g .1) in
-    says-as (says-on (λ (v : Liveness). withRing v (freedFrom w (pathIn c .ring))) s h)
-    (ap (λ (y : List Sent). withRing (pathIn a) y) (m ∙ ap (λ (y : List Sent). packed 8 y) i))
+-- pressed, and freed behind: closed up
+pub taken-out : {a b c : List (List ℕ)} (slot : ℕ) {w : ℕ}
+    → (w ≡ length (others slot (pathIn a .ring))) × Says a b (withRing (pathIn a) (pressed slot (pathIn a .ring)))
+    → Says b c (withRing (pathIn b) (freedFrom w (pathIn b .ring)))
+    → Says a c (withRing (pathIn a) (takenOut 8 (pathIn a .ring) slot))
+taken-out {a} {b} {c} slot {w} f g =
+    let l = pathIn a .ring in
+    let k = others slot l in
+    let j : take (length k) (pressed slot l) ≡ k = take-append-seam k (drop (length k) l) in
+    let m : freedFrom w (pathIn b .ring) ≡ takenOut 8 l slot =
+    (λ o. freedFrom (f .0 o) (ring-is (f .1) o)) ∙ ap (λ (y : List Sent). y ++ replicate (8 - length k) noSent) j in
+    says-as (says-on (λ (v : Liveness). withRing v (freedFrom w (pathIn b .ring))) (f .1) g)
+    (ap (λ (y : List Sent). withRing (pathIn a) y) m)
 
 -- whether there is a since to be dropped, where there is one
 pub dropped-some : (l : List Sent) {m : MaybeId} {x : ℕ} {t : Bool} → m ≡ id.Some x → t ≡ allCount (id.Some x) l → t ≡ isDropped m l
