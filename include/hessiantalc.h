@@ -70,6 +70,23 @@ struct hess_reply hess_record_event(const uint64_t settings[4], uint64_t slots[8
                                     uint32_t acked);
 
 /*
+ * An event in four words, as a caller that keeps events has them: { at, span, HESS_EVENT_SIZES(id, len),
+ * HESS_EVENT_MARKS(kind, slot, flags, acked) }. The uppermost byte of the last is not read. And the parts of an answer
+ * that is one word: the refusal number, 0 if the event was accepted, and the value, 0 if it was refused.
+ */
+#define HESS_EVENT_SIZES(id, len) ((uint64_t)(id) | (uint64_t)(len) << 32)
+#define HESS_EVENT_BYTES(kind, slot, flags) ((uint64_t)(kind) | (uint64_t)(slot) << 8 | (uint64_t)(flags) << 16)
+#define HESS_EVENT_MARKS(kind, slot, flags, acked) ((uint64_t)(acked) | HESS_EVENT_BYTES(kind, slot, flags) << 32)
+#define HESS_NUMBER(answer) ((uint32_t)((answer) >> 32))
+#define HESS_VALUE(answer) ((uint32_t)(answer))
+
+/*
+ * The same as hess_record_event, by the four words of an event; the answer is one word. It is the quickest of the
+ * three: nothing but pointers is handed over.
+ */
+uint64_t hess_record_words(const uint64_t settings[4], uint64_t slots[8][65][4], const uint64_t event[4]);
+
+/*
  * The same for the event whose record, as in a file, these bytes begin with; bytes behind it are not read. 13: the
  * record is cut short, or there are no bytes; 15: its kind is none of 1 to 15; 14: it has a map bit that its kind has
  * not. On these no bytes count as read, and every word stays; else come the event's own number and value.

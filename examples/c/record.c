@@ -100,7 +100,11 @@ int main(void) {
     printf("refused: %" PRIu64 ", lapsed: %" PRIu64 "\n", refused, lapses);
     uint64_t slot = event(CHOOSE, 0, (struct fields){.span = 0x3ff8000000000000}); /* the bits of the margin, 1.5 */
     printf("chosen: slot %" PRIu64 "\n", slot);
-    /* the same choice by the bytes of its event */
+    /* the same choice by the words of its event */
+    static const uint64_t words[4] = {0, 0x3ff8000000000000, HESS_EVENT_SIZES(0, 0), HESS_EVENT_MARKS(CHOOSE, 0, 0, 0)};
+    uint64_t answer = hess_record_words(record.settings, record.slots, words);
+    printf("by words: refusal %" PRIu32 ", slot %" PRIu32 "\n", HESS_NUMBER(answer), HESS_VALUE(answer));
+    /* and by its bytes */
     static const uint8_t bytes[] = {2, CHOOSE, 0, 0, 0, 0, 0, 0, 0, 0xf8, 0x3f};
     struct hess_taken t = hess_record_bytes(record.settings, record.slots, bytes, sizeof bytes);
     printf("by bytes: refusal %" PRIu64 ", slot %" PRIu64 ", %" PRIu64 " bytes read\n", t.number, t.value, t.read);

@@ -27,18 +27,7 @@ unsafe extern "C" {
         window: u64,
         horizon: u64,
     ) -> Reply;
-    safe fn hess_record_event(
-        settings: &Settings,
-        slots: &mut Slots,
-        kind: u8,
-        slot: u8,
-        flags: u8,
-        at: u64,
-        span: u64,
-        id: u32,
-        len: u32,
-        acked: u32,
-    ) -> Reply;
+    safe fn hess_record_words(settings: &Settings, slots: &mut Slots, event: &[u64; 4]) -> u64;
     fn hess_record_bytes(settings: &Settings, slots: &mut Slots, event: *const u8, len: usize) -> Taken;
     fn hess_record_standing(slots: &Slots, slot: u8, out: *mut u8, outlen: usize) -> Reply;
 }
@@ -81,12 +70,16 @@ impl Record {
         if reply.number == 0 { Ok(record) } else { Err(reply.number) }
     }
 
-    /// One event on a slot: the value, or the refusal number.
+    /// One event on a slot, by its words: the value, or the refusal number, which stands in the answer's upper half.
     fn event(&mut self, kind: u8, slot: u8, f: Fields) -> Result<u64, u64> {
-        let reply = hess_record_event(
-            &self.settings, &mut self.slots, kind, slot, f.flags, f.at, f.span, f.id, f.len, f.acked,
-        );
-        if reply.number == 0 { Ok(reply.value) } else { Err(reply.number) }
+        let [id, len, acked] = [f.id, f.len, f.acked].map(u64::from);
+        let [kind, slot, flags] = [kind, slot, f.flags].map(u64::from);
+        let marks = kind << 32 | slot << 40 | flags << 48;
+        let words = [f.at, f.span, id | len << 32, acked | marks];
+        match hess_record_words(&self.settings, &mut self.slots, &words) {
+            value @ 0..=0xffff_ffff => Ok(value),
+            answer => Err(answer >> 32),
+        }
     }
 
     /// The event whose record the bytes begin with.

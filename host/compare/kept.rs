@@ -51,7 +51,7 @@ unsafe extern "C" {
         len: u32,
         acked: u32,
     ) -> Reply;
-    safe fn hess_record_words(settings: &Settings, slots: &mut Slots, event: &[u64; 4]) -> Reply;
+    safe fn hess_record_words(settings: &Settings, slots: &mut Slots, event: &[u64; 4]) -> u64;
     fn hess_record_bytes(
         settings: &Settings,
         slots: &mut Slots,
@@ -59,6 +59,23 @@ unsafe extern "C" {
         len: usize,
     ) -> Taken;
     fn hess_record_standing(slots: &Slots, slot: u8, out: *mut u8, outlen: usize) -> Reply;
+}
+
+/// An event as its four words: instant; span; identifier and length; acknowledged length, kind, slot and flags, with a
+/// byte above them that is not read.
+pub fn words_of(e: &Event, spare: u8) -> [u64; 4] {
+    let [id, len, acked] = [e.id, e.len, e.acked].map(u64::from);
+    let [kind, slot, flags, spare] = [e.kind, e.slot, e.flags, spare].map(u64::from);
+    let marks = kind << 32 | slot << 40 | flags << 48 | spare << 56;
+    [e.now, e.span, id | len << 32, acked | marks]
+}
+
+/// An answer of one word: the number above, the value below.
+pub fn reply_in(answer: u64) -> Reply {
+    Reply {
+        number: answer >> 32,
+        value: answer & 0xffff_ffff,
+    }
 }
 
 impl Kept {
@@ -105,9 +122,9 @@ impl Kept {
         )
     }
 
-    /// One event, by its four words.
+    /// One event, by its four words; number and value in one.
     #[inline]
-    pub fn words(&mut self, event: &[u64; 4]) -> Reply {
+    pub fn words(&mut self, event: &[u64; 4]) -> u64 {
         hess_record_words(&self.settings, &mut self.slots, event)
     }
 

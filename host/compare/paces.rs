@@ -1,6 +1,7 @@
-//! Nanoseconds an event: ours on a record in words, one C call each; the Rust's record in place, with
-//! the same refusals, behind a C call with the same numbers and by its own method; ours by value, whole
-//! files through `hess_events`.
+//! Nanoseconds an event: ours on a record in words, one C call each, by a pointer to the event's words
+//! and by ten numbers; the Rust's record in place, with the same refusals, by its own method, which gets a
+//! pointer to an event, and behind a C call with the same numbers; ours by value, whole files through
+//! `hess_events`.
 
 #[allow(dead_code)]
 mod aims;
@@ -24,7 +25,7 @@ use events::{
     ANSWER, CHOOSE, FOLD, FRESH, HEAR, JUDGE, OPEN, POLL, PROBE, PROVE, SAMPLE, SEARCH, SWEEP, THAW,
 };
 use filed::Filed;
-use kept::Kept;
+use kept::{Kept, words_of};
 use oracle::proto::path::record::{Event, Record, SLOTS};
 use ours::Ours;
 use std::hint::black_box;
@@ -225,13 +226,10 @@ fn over_c(record: &mut Record, e: &Event) -> u64 {
     rust_record_event(record, kind, slot, flags, now, span, id, len, acked).value
 }
 
-/// An event as its four words: instant, span, identifier and length, acknowledged length with kind,
-/// slot and flags.
-fn words_of(e: &Event) -> [u64; 4] {
-    let (id, len, acked) = (u64::from(e.id), u64::from(e.len), u64::from(e.acked));
-    let (kind, slot, flags) = (u64::from(e.kind), u64::from(e.slot), u64::from(e.flags));
-    let marks = kind << 32 | slot << 40 | flags << 48;
-    [e.now, e.span, id | len << 32, acked | marks]
+/// The value in an answer of one word.
+#[inline]
+fn value_in(answer: u64) -> u64 {
+    answer & 0xffff_ffff
 }
 
 /// Medians of nanoseconds an event: by its words, the Rust's by its own method, by numbers, the Rust's over
@@ -244,13 +242,13 @@ fn times(before: &[Event], events: &[Event]) -> [f64; 5] {
         let reply = words.event(event);
         assert_eq!((reply.number, reply.value), rust.event(event));
     }
-    let coded: Vec<[u64; 4]> = events.iter().map(words_of).collect();
+    let coded: Vec<[u64; 4]> = events.iter().map(|e| words_of(e, 0)).collect();
     let file = Filed::new(SETTINGS, [before, events].concat(), || 0);
     let mut ours = Ours::default();
     let mut all = [const { Vec::new() }; 5];
     let mut lists = 1;
     for n in 0..=RUNS {
-        let (a, sum) = run(lists, &coded, &words, |words, e| words.words(e).value);
+        let (a, sum) = run(lists, &coded, &words, |words, e| value_in(words.words(e)));
         let (b, same) = run(lists, events, &rust, |rust, e| rust.event(e).1);
         let (c, also) = run(lists, events, &words, |words, e| words.event(e).value);
         let (d, over) = run(lists, events, &rust, over_c);

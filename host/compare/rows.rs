@@ -1,4 +1,4 @@
-//! A record in words beside the Rust's record: one call an event, by numbers and by bytes in turn.
+//! A record in words beside the Rust's record: one call an event, by numbers, by bytes and by words in turn.
 //! After every event the reply, all standings and every word, which must be the encoder's. Then words
 //! that no record wrote.
 
@@ -7,7 +7,7 @@ use crate::encoder::{encoded, normal, slot_rows};
 use crate::entries::Reply;
 use crate::events::{List, THEMES};
 use crate::filed::Filed;
-use crate::kept::{Guarded, Kept};
+use crate::kept::{Guarded, Kept, reply_in, words_of};
 use crate::papers;
 use crate::random::Rng;
 use oracle::proto::path::eventfile::{Next, SETTINGS, record_at};
@@ -33,6 +33,7 @@ pub struct Tally {
     lists: u64,
     events: u64,
     by_bytes: u64,
+    by_words: u64,
     refused: u64,
     unread: u64,
     standings: u64,
@@ -46,6 +47,7 @@ impl Tally {
         self.lists += other.lists;
         self.events += other.events;
         self.by_bytes += other.by_bytes;
+        self.by_words += other.by_words;
         self.refused += other.refused;
         self.unread += other.unread;
         self.standings += other.standings;
@@ -96,12 +98,13 @@ pub fn compare(events: u64) {
 
 fn print(t: &Tally) {
     println!(
-        "{} calls with an event on a record in words: {} in {} lists beside the Rust's record ({} by bytes, {} refused), \
+        "{} calls with an event on a record in words: {} in {} lists beside the Rust's record ({} by bytes, {} by words, {} refused), \
          {} that can't be read, {} on words that no record wrote, each on {COPIES} copies ({} refused)",
         t.all(),
         t.events,
         t.lists,
         t.by_bytes,
+        t.by_words,
         t.refused,
         t.unread,
         t.strange,
@@ -180,13 +183,14 @@ impl Sides {
         })
     }
 
-    /// The list's events: those that a file can hold by numbers and by bytes in turn, the others by numbers.
+    /// The list's events by numbers, by bytes where a file can hold them, and by words, in turn.
     fn run(&mut self, tally: &mut Tally, list: &List, filed: &Filed) -> Result<(), String> {
         let same = list.events == filed.events;
         for (n, event) in list.events.iter().enumerate() {
-            let reply = match same && n % 2 == 1 {
-                true => self.by_bytes(tally, filed, n)?,
-                false => self.ours.kept.event(event),
+            let reply = match n % 3 {
+                1 if same => self.by_bytes(tally, filed, n)?,
+                2 => self.by_words(tally, event),
+                _ => self.ours.kept.event(event),
             };
             self.event(tally, event, reply)
                 .map_err(|what| format!("event {}, {event:?}: {what}", n + 1))?;
@@ -195,6 +199,12 @@ impl Sides {
             true => Ok(()),
             false => Err("at the end: other words".to_string()),
         }
+    }
+
+    /// An event by its words; the byte that is not read may be any.
+    fn by_words(&mut self, tally: &mut Tally, event: &Event) -> Reply {
+        tally.by_words += 1;
+        reply_in(self.ours.kept.words(&words_of(event, tally.by_words as u8)))
     }
 
     /// An event by the file's bytes from it on.
@@ -309,7 +319,7 @@ impl Sides {
     }
 }
 
-/// A list on words that no record wrote: a second copy answers the same; the encoder's words of the same record
+/// A list on words that no record wrote: a second copy answers the same, by the event's words; the encoder's words of the same record
 /// answer the same, and stay the encoder's for what the others say; a refusal leaves every word.
 fn strange(tally: &mut Tally, list: &List, rng: &mut Rng) -> Result<(), String> {
     let mut some = rng.clone();
@@ -327,7 +337,8 @@ fn strange(tally: &mut Tally, list: &List, rng: &mut Rng) -> Result<(), String> 
             event.slot = rng.below(9) as u8;
         }
         let reply = ours.kept.event(&event);
-        let replies = [second.kept.event(&event), coded.kept.event(&event)];
+        let told = reply_in(second.kept.words(&words_of(&event, n as u8)));
+        let replies = [told, coded.kept.event(&event)];
         let fail = |what: &str| Err(format!("strange words, event {}, {event:?}: {what}", n + 1));
         if replies != [reply; 2] {
             return fail(&format!("{reply:?} and {replies:?}"));
