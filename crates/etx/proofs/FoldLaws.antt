@@ -1,7 +1,7 @@
 -- The maximum as a branch: the second where the first is the NaN or below it, else the first.
 -- Assumes nothing.
 use mathlib.Core.Path.{_≡_}
-use mathlib.Core.Bool.{Bool, true, false, cond, _||_}
+use mathlib.Core.Bool.{cond, _||_}
 use lib.Ieee.{Float, ne, lt}
 use Rattle.base.proofs.Cases.{on-flag}
 use Rattle.total.specs.Values.{maxOf}
