@@ -57,7 +57,7 @@ pub event-made : (e : Event) {i n a k s f : ℕ} → (i ≡ e .id) × (i < 2 ^ 3
     → (a ≡ e .acked) × (a < 2 ^ 32) → (k ≡ e .kind) × (k < 256) → (s ≡ e .slot) × (s < 256)
     → (f ≡ e .flags) × (f < 256)
     → let r = e .now ∷ e .span ∷ (i + n * 2 ^ 32) ∷ (a + k * 2 ^ 32 + s * 2 ^ 40 + f * 2 ^ 48) ∷ [] in
-      (r ≡ eventRow e) × (eventIn r ≡ e)
+    (r ≡ eventRow e) × (eventIn r ≡ e)
 unfolding eventRow
 event-made e {i} {n} {a} {k} {s} {f} p q t u v w =
     let r : e .now ∷ e .span ∷ (i + n * 2 ^ 32) ∷ (a + k * 2 ^ 32 + s * 2 ^ 40 + f * 2 ^ 48) ∷ [] ≡ eventRow e =
