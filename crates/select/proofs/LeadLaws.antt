@@ -9,19 +9,31 @@ use native.Mathlib.Omega.{arith}
 use lib.Ieee.{Float}
 use lib.ListN.{length, getD, set, take, length-set}
 use lib.Seq.{take-suc, take-all, take-suc-set}
-use Rattle.base.specs.Seq.{every, keep}
+use Rattle.base.specs.Seq.{keep}
 use Rattle.base.proofs.Cases.{never}
 use Rattle.base.proofs.ScanLaws.{map-append}
 use Rattle.select.specs.Media.{speedOf}
-use Rattle.select.specs.Rivals.{placed}
-use Rattle.select.specs.Choice.{limitOf, orElse, pickedOf, slotOf, bestOf}
+use Rattle.select.specs.Rivals.{isLong, placed, byScore, byMedium, byTrip}
+use Rattle.select.specs.Choice.{
+  noneIs,
+  rivalsOf,
+  rankedOf,
+  firstBy,
+  orElse,
+  scoredOf,
+  limitOf,
+  nearOf,
+  preferredOf,
+  quickOf,
+  quickest,
+  amongRanked,
+  pickedOf,
+  slotOf,
+  bestOf,
+}
 use Rattle.select.specs.Passes.{
-  Want,
-  lacksOf,
+  isRanked,
   gateOf,
-  takesOf,
-  beforeOf,
-  firstTaken,
   bidOf,
   noLead,
   leadOf,
@@ -35,12 +47,9 @@ use Rattle.select.specs.Passes.{
   preferredLead,
   quickerLead,
   eitherLead,
-  overLead,
   secondLead,
   afterLead,
 }
-use Rattle.select.specs.Passes.Test.{Long}
-use Rattle.select.specs.Passes.Want.{Scored, Preferred, Quicker, Timed}
 use Rattle.select.specs.declared.types.Medium.{Medium}
 use Rattle.select.specs.declared.types.Rival.{Rival}
 use Rattle.select.specs.declared.types.MaybeRival.{MaybeRival}
@@ -51,7 +60,8 @@ use Rattle.select.specs.declared.passes.Gate.{Gate}
 use Rattle.select.specs.declared.passes.Bid.{Bid}
 use Rattle.select.specs.declared.passes.Lead.{Lead}
 use Rattle.select.proofs.MapLaws.{keep-map, first-map}
-use Rattle.select.proofs.PickLaws.{picked-preferred, picked-plain, picked-timed, best-score}
+use Rattle.select.proofs.RankLaws.{ranked-is, scored-is, near-preferred, near-quick, near-preferred-quick}
+use Rattle.select.proofs.PickLaws.{best-score}
 
 -- ---- the loop that makes the bids
 
@@ -93,29 +103,41 @@ abbrev pub leadIn : MaybeRival → Lead
 leadIn None = noLead
 leadIn (Some r) = record { score = r .score; index = r .index; speed = speedOf (r .medium); found = true }
 
--- the first of the bids that are taken, where tests and orders see of a bid what they see of its rival
-module _ (g : Gate) (w : Want) (before : Bid → Bid → Bool) (p : Bid → Bool) where
-  lead-taken : ((r : Rival) → p (bidOf g r) ≡ takesOf w r)
-      → ((a b : Rival) → before (bidOf g a) (bidOf g b) ≡ beforeOf w a b) → (l : List Rival)
-      → firstLead before (keep p (map (bidOf g) l)) ≡ leadIn (firstTaken w l)
-  lead-taken tests orders l =
-      ap (firstLead before) (keep-map (bidOf g) p (takesOf w) tests l)
-      ∙ first-map (bidOf g) before (beforeOf w) orders leadIn None Some leadOf (λ r. refl) (keep (takesOf w) l)
+-- the bids of a field
+abbrev pub bidsOf : List Rival → List Bid
+bidsOf l = map (bidOf (gateOf l)) l
 
-module _ (g : Gate) (l : List Rival) where
-  pub best-lead : bestLead (map (bidOf g) l) ≡ leadIn (firstTaken (Scored g) l)
+-- the first of the bids that pass a test, where an order sees of bids what another sees of their rivals
+module _ (l : List Rival) where
+  lead-is : (before : Bid → Bid → Bool) (order : Rival → Rival → Bool)
+      → ((a b : Rival) → before (bidOf (gateOf l) a) (bidOf (gateOf l) b) ≡ order a b)
+      → (p : Bid → Bool) {k : List Rival} → k ≡ keep (λ r. p (bidOf (gateOf l) r)) l
+      → firstLead before (keep p (bidsOf l)) ≡ leadIn (firstBy order k)
+  lead-is before order same p {k} e =
+      let q : Rival → Bool = λ r. p (bidOf (gateOf l) r) in
+      ap (firstLead before) (keep-map (bidOf (gateOf l)) p q (λ r. refl) l)
+      ∙ first-map (bidOf (gateOf l)) before order same leadIn None Some leadOf (λ r. refl) (keep q l)
+      ∙ ap (λ (m : List Rival). leadIn (firstBy order m)) (sym e)
+
+  best-lead : bestLead (bidsOf l) ≡ leadIn (firstBy byScore (scoredOf (rankedOf l)))
   unfolding bestLead
-  best-lead = lead-taken g (Scored g) byBidScore isOn (λ r. refl) (λ a b. refl) l
+  best-lead = lead-is byBidScore byScore (λ a b. refl) isOn (scored-is l)
 
-  preferred-lead : (limit : Float) → preferredLead limit (map (bidOf g) l) ≡ leadIn (firstTaken (Preferred g limit) l)
-  unfolding preferredLead
-  preferred-lead limit = lead-taken g (Preferred g limit) byBidScore (isPreferred limit) (λ r. refl) (λ a b. refl) l
+  module _ (limit : Float) where
+    preferred-lead : preferredLead limit (bidsOf l) ≡ leadIn (firstBy byScore (preferredOf (nearOf limit (rankedOf l))))
+    unfolding preferredLead
+    preferred-lead = lead-is byBidScore byScore (λ a b. refl) (isPreferred limit) (near-preferred l limit)
 
-  quicker-lead : (limit : Float) (only : Bool) (m : Medium)
-      → quickerLead limit only (speedOf m) (map (bidOf g) l) ≡ leadIn (firstTaken (Quicker g limit only m) l)
-  unfolding quickerLead
-  quicker-lead limit only m =
-      lead-taken g (Quicker g limit only m) byBidMedium (isQuicker limit only (speedOf m)) (λ r. refl) (λ a b. refl) l
+    quick-lead : (m : Medium)
+        → quickerLead limit false (speedOf m) (bidsOf l) ≡ leadIn (firstBy byMedium (quickOf m (nearOf limit (rankedOf l))))
+    unfolding quickerLead
+    quick-lead m = lead-is byBidMedium byMedium (λ a b. refl) (isQuicker limit false (speedOf m)) (near-quick l limit m)
+
+    preferred-quick-lead : (m : Medium) → quickerLead limit true (speedOf m) (bidsOf l)
+        ≡ leadIn (firstBy byMedium (quickOf m (preferredOf (nearOf limit (rankedOf l)))))
+    unfolding quickerLead
+    preferred-quick-lead m = lead-is byBidMedium byMedium (λ a b. refl) (isQuicker limit true (speedOf m))
+        (near-preferred-quick l limit m)
 
 -- ---- the choice
 
@@ -125,34 +147,26 @@ either-slot : (f : MaybeRival) (p : Rival)
 either-slot (Some a) p = refl
 either-slot None p = refl
 
-module _ (g : Gate) (l : List Rival) (margin : Float) (e : g ≡ gateOf l) where
-  module _ (least : Rival) (h : firstTaken (Scored g) l ≡ Some least) where
-    -- what the scan for a quicker medium makes of the pick
-    over-slot : (only : Bool) (p : Rival)
-        → chosen.Slot (overLead (map (bidOf g) l) (limitOf least margin) only (leadIn (Some p)) .index)
-        ≡ slotOf (orElse (firstTaken (Quicker g (limitOf least margin) only (p .medium)) l) p)
-    over-slot only p =
-        ap (λ (x : Lead). chosen.Slot (eitherLead x (leadIn (Some p)) .index))
-        (quicker-lead g l (limitOf least margin) only (p .medium))
-        ∙ either-slot (firstTaken (Quicker g (limitOf least margin) only (p .medium)) l) p
+module _ (l : List Rival) (least : Rival) where
+  -- what the scan for a quicker medium makes of the pick
+  second-slot : (limit : Float) (second : MaybeRival)
+      → chosen.Slot (secondLead (bidsOf l) limit (leadIn (Some least)) (leadIn second) .index)
+      ≡ slotOf (quickest (nearOf limit (rankedOf l)) least second)
+  second-slot limit (Some p) =
+      ap (λ (x : Lead). chosen.Slot (eitherLead x (leadIn (Some p)) .index)) (preferred-quick-lead l limit (p .medium))
+      ∙ either-slot (firstBy byMedium (quickOf (p .medium) (preferredOf (nearOf limit (rankedOf l))))) p
+  second-slot limit None =
+      ap (λ (x : Lead). chosen.Slot (eitherLead x (leadIn (Some least)) .index)) (quick-lead l limit (least .medium))
+      ∙ either-slot (firstBy byMedium (quickOf (least .medium) (nearOf limit (rankedOf l)))) least
 
-    second-slot : (second : MaybeRival) → firstTaken (Preferred g (limitOf least margin)) l ≡ second
-        → chosen.Slot (secondLead (map (bidOf g) l) (limitOf least margin) (leadIn (Some least)) (leadIn second) .index)
-        ≡ slotOf (pickedOf l margin)
-    second-slot (Some p) s =
-        over-slot true p ∙ ap slotOf (picked-preferred l e refl margin h refl refl s refl refl)
-    second-slot None s =
-        over-slot false least ∙ ap slotOf (picked-plain l e refl margin h refl refl s refl refl)
-
-    -- the pick where the best has a score
-    after-slot : chosen.Slot (afterLead (map (bidOf g) l) (leadIn (Some least)) margin .index)
-        ≡ slotOf (pickedOf l margin)
-    unfolding afterLead
-    after-slot =
-        ap
-        (λ (x : Lead). chosen.Slot (secondLead (map (bidOf g) l) (limitOf least margin) (leadIn (Some least)) x .index))
-        (preferred-lead g l (limitOf least margin))
-        ∙ second-slot (firstTaken (Preferred g (limitOf least margin)) l) refl
+  -- the pick where the best has a score
+  after-slot : (margin : Float) → chosen.Slot (afterLead (bidsOf l) (leadIn (Some least)) margin .index)
+      ≡ slotOf (amongRanked (rankedOf l) margin (Some least))
+  unfolding afterLead
+  after-slot margin =
+      ap (λ (x : Lead). chosen.Slot (secondLead (bidsOf l) (limitOf least margin) (leadIn (Some least)) x .index))
+      (preferred-lead l (limitOf least margin))
+      ∙ second-slot (limitOf least margin) (firstBy byScore (preferredOf (nearOf (limitOf least margin) (rankedOf l))))
 
 -- ---- what `picked` and `best` ask
 
@@ -167,27 +181,37 @@ lead-none (Some r) e h = never (ap (λ (x : Lead). x .found) e) h
 
 module _ {g : Gate} (l : List Rival) {bids : List Bid} {lead : Lead} (e : g ≡ gateOf l) (b : bids ≡ map (bidOf g) l)
     (f : lead ≡ bestLead bids) where
-  first-lead : lead ≡ leadIn (firstTaken (Scored g) l)
-  first-lead = f ∙ ap bestLead b ∙ best-lead g l
+  bids-are : bids ≡ bidsOf l
+  bids-are = b ∙ ap (λ (x : Gate). map (bidOf x) l) e
+
+  first-lead : lead ≡ leadIn (firstBy byScore (scoredOf (rankedOf l)))
+  first-lead = f ∙ ap bestLead bids-are ∙ best-lead l
 
   pub picked-lead : (margin : Float) {pick : Lead} → lead .found ≡ true → pick ≡ afterLead bids lead margin
       → chosen.Slot (pick .index) ≡ slotOf (pickedOf l margin)
+  unfolding pickedOf
   picked-lead margin {pick} h p =
-      lead-some (firstTaken (Scored g) l) first-lead h
+      lead-some (firstBy byScore (scoredOf (rankedOf l))) first-lead h
       (λ r s q.
-      ap (λ (x : Lead). chosen.Slot (x .index)) (p ∙ (λ i. afterLead (b i) (q i) margin))
-      ∙ after-slot g l margin e r s)
+      ap (λ (x : Lead). chosen.Slot (x .index)) (p ∙ (λ i. afterLead (bids-are i) (q i) margin))
+      ∙ after-slot l r margin
+      ∙ ap (λ (x : MaybeRival). slotOf (amongRanked (rankedOf l) margin x)) (sym s))
 
-  pub picked-soonest : (margin : Float) {k : MaybeRival} → lead .found ≡ false → k ≡ firstTaken (Timed g) l
-      → slotOf k ≡ slotOf (pickedOf l margin)
+  pub picked-soonest : (margin : Float) {k : MaybeRival} → lead .found ≡ false
+      → k ≡ firstBy byTrip (keep (isRanked g) l) → slotOf k ≡ slotOf (pickedOf l margin)
+  unfolding pickedOf
   picked-soonest margin {k} h t =
-      ap slotOf (picked-timed l e refl margin (lead-none (firstTaken (Scored g) l) first-lead h) t)
+      ap slotOf
+      (t
+      ∙ ap (λ (x : Gate). firstBy byTrip (keep (isRanked x) l)) e
+      ∙ ap (firstBy byTrip) (sym (ranked-is l))
+      ∙ ap (amongRanked (rankedOf l) margin) (sym (lead-none (firstBy byScore (scoredOf (rankedOf l))) first-lead h)))
 
-  module _ (long : every (lacksOf Long) l ≡ true) (at : placed 0 l ≡ true) where
+  module _ (long : noneIs isLong (rivalsOf l) ≡ true) (at : placed 0 l ≡ true) where
     pub best-found : lead .found ≡ true → best.Score (lead .score) ≡ bestOf l
     best-found h =
-        lead-some (firstTaken (Scored g) l) first-lead h
-        (λ r s q. ap (λ (x : Lead). best.Score (x .score)) q ∙ best-score l long at e refl s)
+        lead-some (firstBy byScore (scoredOf (rankedOf l))) first-lead h
+        (λ r s q. ap (λ (x : Lead). best.Score (x .score)) q ∙ best-score l long at s)
 
     pub best-none : lead .found ≡ false → best.Unscored ≡ bestOf l
-    best-none h = best-score l long at e refl (lead-none (firstTaken (Scored g) l) first-lead h)
+    best-none h = best-score l long at (lead-none (firstBy byScore (scoredOf (rankedOf l))) first-lead h)

@@ -1,18 +1,17 @@
 -- For the proofs of the code's passes; no contract of a function that another crate calls cites it. A pass over a whole
 -- field asks the tests of document 01's "Choice" of each rival at once: proofs/RankLaws.antt proves that it keeps what
 -- the lists of specs/Choice.antt keep.
-use Prim.Native.Nat.{ℕ, max}
+use Prim.Native.Nat.{ℕ}
 use mathlib.Core.Bool.{Bool, true, false, not, cond, _&&_, _||_}
-use mathlib.Core.List.{List, map, foldl}
+use mathlib.Core.List.{List}
 use lib.Dec.{ltb, eqb}
 use lib.Ieee.{Float, binary64, ofBits, mul, le}
-use Rattle.base.specs.Seq.{every, keep}
+use Rattle.base.specs.Seq.{keep}
 use Rattle.base.specs.First.{firstOf}
 use Rattle.total.specs.Values.{totalOf}
-use Rattle.select.specs.Media.{speedOf, quickerOf}
-use Rattle.select.specs.Rivals.{isLong, byScore, byMedium, byTrip}
-use Rattle.select.specs.Choice.{firstBy}
-use Rattle.select.specs.declared.types.Medium.{Medium}
+use Rattle.select.specs.Media.{speedOf}
+use Rattle.select.specs.Rivals.{byTier}
+use Rattle.select.specs.Choice.{noneIs, rivalsOf}
 use Rattle.select.specs.declared.types.Rival.{Rival}
 use Rattle.select.specs.declared.types.MaybeRival.{MaybeRival}
 use Rattle.select.specs.declared.types.MaybeRival.the-variants.{None, Some}
@@ -20,71 +19,39 @@ use Rattle.select.specs.declared.passes.Gate.{Gate}
 use Rattle.select.specs.declared.passes.Bid.{Bid}
 use Rattle.select.specs.declared.passes.Lead.{Lead}
 
--- what a test over the field asks of a rival: a duration that is too long; a pin; in the highest tier that the pins
--- leave, that it fits
-pub data Test : Type 0 where
-  Long : Test
-  Pinned : Test
-  Fits : (pinned : Bool) (top : ℕ) → Test
-
--- what a scan looks for among the ranked: the scored; the preferred near a limit; those near a limit over a quicker
--- medium, preferred ones only where one was picked; all, by their round trips
-pub data Want : Type 0 where
-  Scored : (g : Gate) → Want
-  Preferred : (g : Gate) (limit : Float) → Want
-  Quicker : (g : Gate) (limit : Float) (only : Bool) (m : Medium) → Want
-  Timed : (g : Gate) → Want
-
 -- a rival that the pins leave, where `pinned` says that there is one
 abbrev pub isNamed : Bool → Rival → Bool
 isNamed pinned r = r .held && (r .pinned || not pinned)
 
+-- one of those that is of a tier
+abbrev pub isOfTier : Bool → ℕ → Rival → Bool
+isOfTier pinned top r = isNamed pinned r && eqb (r .tier) top
+
 -- a ranked rival
 abbrev pub isRanked : Gate → Rival → Bool
-isRanked g r = (isNamed (g .pinned) r && eqb (r .tier) (g .top)) && (r .fits || not (g .fit))
+isRanked g r = isOfTier (g .pinned) (g .top) r && (r .fits || not (g .fit))
 
--- what a test asks for: a round trip that is too long, a pin, and in the highest tier that the rival fits
-abbrev pub asksOf : Test → Rival → Bool
-asksOf Long r = r .held && isLong r
-asksOf Pinned r = r .held && r .pinned
-asksOf (Fits pinned top) r = (isNamed pinned r && eqb (r .tier) top) && r .fits
+-- no rival is pinned
+abbrev pub nonePinned : List Rival → Bool
+nonePinned l = noneIs (λ r. r .pinned) (rivalsOf l)
 
--- and that a rival does not have
-abbrev pub lacksOf : Test → Rival → Bool
-lacksOf t r = not (asksOf t r)
-
--- the highest tier among those that the pins leave
+-- the highest tier among those that the pins leave: that of the first by tier, and 0 where there is none
 abbrev pub topOf : Bool → List Rival → ℕ
-topOf pinned l = foldl max 0 (map (λ r. r .tier) (keep (isNamed pinned) l))
+topOf pinned l = firstOf byTier 0 (λ r. r .tier) (keep (isNamed pinned) l)
+
+-- none of those that are of a tier fits
+abbrev pub noneFits : Bool → ℕ → List Rival → Bool
+noneFits pinned top l = noneIs (λ r. r .fits) (keep (isOfTier pinned top) l)
 
 -- whether one is pinned, the highest tier, whether one of it fits
 abbrev pub gateFrom : Bool → ℕ → List Rival → Gate
-gateFrom pinned top l = record { top = top; pinned = pinned; fit = not (every (lacksOf (Fits pinned top)) l) }
+gateFrom pinned top l = record { top = top; pinned = pinned; fit = not (noneFits pinned top l) }
 
 -- who is ranked in a field
 unfoldable pub gateOf : List Rival → Gate
 gateOf l =
-    let pinned = not (every (lacksOf Pinned) l) in
+    let pinned = not (nonePinned l) in
     gateFrom pinned (topOf pinned l) l
-
--- the ranked that a scan takes
-abbrev pub takesOf : Want → Rival → Bool
-takesOf (Scored g) r = isRanked g r && r .scored
-takesOf (Preferred g limit) r = ((isRanked g r && r .scored) && le (r .score) limit) && r .preferred
-takesOf (Quicker g limit only m) r =
-    (((isRanked g r && r .scored) && le (r .score) limit) && (r .preferred || not only)) && quickerOf (r .medium) m
-takesOf (Timed g) r = isRanked g r
-
--- the order of a scan
-abbrev pub beforeOf : Want → Rival → Rival → Bool
-beforeOf (Scored g) = byScore
-beforeOf (Preferred g limit) = byScore
-beforeOf (Quicker g limit only m) = byMedium
-beforeOf (Timed g) = byTrip
-
--- what a scan finds
-abbrev pub firstTaken : Want → List Rival → MaybeRival
-firstTaken w l = firstBy (beforeOf w) (keep (takesOf w) l)
 
 -- ---- the scans among the scored, over bids
 

@@ -1,9 +1,9 @@
 // Which rivals are ranked.
 ghost use mathlib.Core.Path.{_≡_};
-ghost use Rattle.base.specs.Seq.{every};
+ghost use mathlib.Core.Bool.{_&&_};
 ghost use Rattle.select.specs.Rivals.{isLong, atPlace, placed};
-ghost use Rattle.select.specs.Passes.{isNamed, isRanked, asksOf, lacksOf, topOf, gateOf};
-ghost use Rattle.select.specs.Passes.Test.{Long, Pinned, Fits};
+ghost use Rattle.select.specs.Choice.{noneIs, rivalsOf};
+ghost use Rattle.select.specs.Passes.{isNamed, isOfTier, isRanked, nonePinned, noneFits, topOf, gateOf};
 use crate::passes::*;
 use crate::types::*;
 use base::limits::DURATION_END;
@@ -31,28 +31,28 @@ pub fn ranks(g: Gate, r: Rival) -> bool
 
 // Whether a rival is held and has a round trip of 2^62 or more.
 fn held_long(r: Rival) -> bool
-    ensures { λ k. ⌜ k ≡ asksOf Long r ⌝ }
+    ensures { λ k. ⌜ k ≡ (r .held && isLong r) ⌝ }
 {
     r.held & long(r)
 }
 
 // Whether a rival is held and pinned.
 fn held_pinned(r: Rival) -> bool
-    ensures { λ k. ⌜ k ≡ asksOf Pinned r ⌝ }
+    ensures { λ k. ⌜ k ≡ (r .held && r .pinned) ⌝ }
 {
     r.held & r.pinned
 }
 
 // Whether a rival that the pins leave is of the highest tier and fits.
 fn top_fits(pinned: bool, top: u8, r: Rival) -> bool
-    ensures { λ k. ⌜ k ≡ asksOf (Fits pinned top) r ⌝ }
+    ensures { λ k. ⌜ k ≡ (isOfTier pinned top r && r .fits) ⌝ }
 {
     (named(pinned, r) & (r.tier == top)) & r.fits
 }
 
 // Whether no held rival has a round trip of 2^62 or more.
 pub fn none_long(field: [Rival; PATH_MAX_PER_PEER]) -> bool
-    ensures { λ k. ⌜ k ≡ every (lacksOf Long) field ⌝ }
+    ensures { λ k. ⌜ k ≡ noneIs isLong (rivalsOf field) ⌝ }
 {
     let mut i: usize = 0;
     while i < PATH_MAX_PER_PEER {
@@ -67,7 +67,7 @@ pub fn none_long(field: [Rival; PATH_MAX_PER_PEER]) -> bool
 
 // Whether no held rival is pinned.
 fn none_pinned(field: [Rival; PATH_MAX_PER_PEER]) -> bool
-    ensures { λ k. ⌜ k ≡ every (lacksOf Pinned) field ⌝ }
+    ensures { λ k. ⌜ k ≡ nonePinned field ⌝ }
 {
     let mut i: usize = 0;
     while i < PATH_MAX_PER_PEER {
@@ -82,7 +82,7 @@ fn none_pinned(field: [Rival; PATH_MAX_PER_PEER]) -> bool
 
 // Whether no rival of the highest tier that the pins leave fits.
 fn none_fits(field: [Rival; PATH_MAX_PER_PEER], pinned: bool, top: u8) -> bool
-    ensures { λ k. ⌜ k ≡ every (lacksOf (Fits pinned top)) field ⌝ }
+    ensures { λ k. ⌜ k ≡ noneFits pinned top field ⌝ }
 {
     let mut i: usize = 0;
     while i < PATH_MAX_PER_PEER {

@@ -1,11 +1,12 @@
 // The scans of a field: the first, in an order, of the rivals that one looks for.
 ghost use mathlib.Core.Path.{_≡_};
 ghost use mathlib.Core.List.{map};
+ghost use Rattle.base.specs.Seq.{keep};
 ghost use Rattle.select.specs.Rivals.{tripOf, byTrip};
-ghost use Rattle.select.specs.Passes.{betterOf, firstTaken, bidOf, noBid, noLead, leadOf};
+ghost use Rattle.select.specs.Choice.{firstBy};
+ghost use Rattle.select.specs.Passes.{isRanked, betterOf, bidOf, noBid, noLead, leadOf};
 ghost use Rattle.select.specs.Passes.{byBidScore, byBidMedium, foundBid, betterLead, isPreferred, isQuicker};
 ghost use Rattle.select.specs.Passes.{bestLead, preferredLead, quickerLead};
-ghost use Rattle.select.specs.Passes.Want.{Timed};
 use crate::passes::*;
 use crate::types::*;
 
@@ -208,7 +209,7 @@ fn sooner(f: MaybeRival, r: Rival) -> MaybeRival
 
 // The first of the ranked by round trip.
 pub fn soonest(field: [Rival; PATH_MAX_PER_PEER], g: Gate) -> MaybeRival
-    ensures { λ k. ⌜ k ≡ firstTaken (Timed g) field ⌝ }
+    ensures { λ k. ⌜ k ≡ firstBy byTrip (keep (isRanked g) field) ⌝ }
 {
     let mut f = MaybeRival::None;
     let mut i: usize = 0;

@@ -1,23 +1,22 @@
 -- `select::gate::none_long` meets its contract: one pass asks each rival. The measure is the places left.
 -- Assumes nothing.
 use Prim.Native.Nat.{_-_}
-use mathlib.Core.Path.{ap, sym, _∙_}
-use mathlib.Core.Bool.{not}
-use Rattle.base.proofs.SeqLaws.{Passed, passed-start, passed-not, passed-next, passed-end}
-use Rattle.select.specs.Passes.{lacksOf}
-use Rattle.select.specs.Passes.Test.{Long}
+use mathlib.Core.Path.{sym, _∙_}
+use Rattle.select.specs.Rivals.{isLong}
+use Rattle.select.specs.declared.types.Rival.{Rival}
+use Rattle.select.proofs.ScanLaws.{Asking, asking-start, asking-not, asking-next, asking-end}
 use borrow.Author.Needs.{needs}
 use Rattle.select.proofs.gate.none_long.Statement.{statement}
 use Rattle.select.proofs.gate.none_long.Tie as tie
 
 abbrev Inv-loop : tie.InvT-loop
-Inv-loop field i₀ i = Passed (lacksOf Long) field 8 i
+Inv-loop field i₀ i = Asking (λ (r : Rival). r .held) isLong field 8 i
 
 abbrev μ-loop : tie.MeasureT-loop
 μ-loop field i₀ i = 8 - i
 
 loop-holds : tie.Need-loop-holds Inv-loop μ-loop
-loop-holds c = passed-start (search needs)
+loop-holds c = asking-start (search needs)
 
 mul-r : tie.Need-mul-r Inv-loop μ-loop
 mul-r c = search needs
@@ -29,8 +28,8 @@ held-long-requires : tie.Need-held-long-requires Inv-loop μ-loop
 held-long-requires c κs = search needs
 
 returns : tie.Need-returns Inv-loop μ-loop
-returns c = passed-not _ (c .before .before .before .before .loop .inv) (search needs)
-    (ap not (sym (c .before .held-long .ensures) ∙ c .if1 .taken))
+returns c = asking-not _ (c .before .before .before .before .loop .inv) (search needs)
+    (sym (c .before .held-long .ensures) ∙ c .if1 .taken)
 
 add-i : tie.Need-add-i Inv-loop μ-loop
 add-i c = search needs
@@ -39,11 +38,11 @@ loop-less : tie.Need-loop-less Inv-loop μ-loop
 loop-less c = search needs
 
 loop-again : tie.Need-loop-again Inv-loop μ-loop
-loop-again c = passed-next _ (c .before .before .before .before .loop .inv) (search needs)
-    (ap not (sym (c .before .held-long .ensures) ∙ c .if1 .left))
+loop-again c = asking-next _ (c .before .before .before .before .loop .inv) (search needs)
+    (sym (c .before .held-long .ensures) ∙ c .if1 .left)
 
 returns-2 : tie.Need-returns-2 Inv-loop μ-loop
-returns-2 c = passed-end (c .before .loop .inv) (search needs)
+returns-2 c = asking-end (c .before .loop .inv) (search needs)
 
 pub none-long-spec : {M : Type 1} → statement M
 none-long-spec =

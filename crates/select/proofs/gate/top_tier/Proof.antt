@@ -1,10 +1,11 @@
--- `select::gate::top_tier` meets its contract: the loop folds the tiers. The measure is the places left.
+-- `select::gate::top_tier` meets its contract: the loop folds the tiers, and finds that of the first. The measure is the places left.
 -- Assumes nothing.
 use Prim.Native.Nat.{_-_, max}
 use mathlib.Core.Path.{sym, _∙_}
-use Rattle.base.proofs.ScanLaws.{Folding, folding-start, folding-take, folding-skip, folding-end}
+use Rattle.base.proofs.ScanLaws.{Folding, folding-start, folding-take, folding-skip}
 use Rattle.select.specs.Passes.{isNamed}
 use Rattle.select.specs.declared.types.Rival.{Rival}
+use Rattle.select.proofs.ScanLaws.{tier-end}
 use borrow.Author.Needs.{needs}
 use Rattle.select.proofs.gate.top_tier.Statement.{statement}
 use Rattle.select.proofs.gate.top_tier.Tie as tie
@@ -48,7 +49,7 @@ loop-again-2 c = folding-skip _ (c .before .before .before .before .loop .inv) (
     (sym (c .before .named .ensures) ∙ c .if1 .left)
 
 returns : tie.Need-returns Inv-loop μ-loop
-returns c = folding-end (c .before .loop .inv) (search needs)
+returns c = tier-end (c .before .loop .inv) (search needs)
 
 pub top-tier-spec : {M : Type 1} → statement M
 top-tier-spec =
