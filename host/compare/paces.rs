@@ -176,13 +176,20 @@ fn main() {
     println!("|---|---|---|---|---|---|---|---|---|---|");
     for (name, turn) in turns() {
         let (before, events) = list(name, turn);
-        let [words, rust, numbers, over_c, value] = times(&before, &events);
+        let all = times(&before, &events);
+        let side = |n: usize| median(all.iter().map(|run| run[n]).collect());
+        let ratio = |n: usize, m: usize| median(all.iter().map(|run| run[n] / run[m]).collect());
         println!(
-            "| {name} | {words:.1} | {rust:.1} | {:.2} | {numbers:.1} | {over_c:.1} | {:.2} | {:.2} | {value:.0} | {:.1} |",
-            words / rust,
-            numbers / over_c,
-            numbers / rust,
-            value / rust
+            "| {name} | {:.1} | {:.1} | {:.2} | {:.1} | {:.1} | {:.2} | {:.2} | {:.0} | {:.1} |",
+            side(WORDS),
+            side(METHOD),
+            ratio(WORDS, METHOD),
+            side(NUMBERS),
+            side(OVER_C),
+            ratio(NUMBERS, OVER_C),
+            ratio(NUMBERS, METHOD),
+            side(VALUE),
+            ratio(VALUE, METHOD)
         );
     }
     println!();
@@ -232,9 +239,21 @@ fn value_in(answer: u64) -> u64 {
     answer & 0xffff_ffff
 }
 
-/// Medians of nanoseconds an event: by its words, the Rust's by its own method, by numbers, the Rust's over
-/// C, by value.
-fn times(before: &[Event], events: &[Event]) -> [f64; 5] {
+/// An event's words, where they do not lie in two lines of the processor's cache.
+#[repr(align(32))]
+#[derive(Clone, Copy)]
+struct Words([u64; 4]);
+
+/// The sides of a run: ours by words, the Rust's by its own method, ours by numbers, the Rust's over C, ours by
+/// value.
+const WORDS: usize = 0;
+const METHOD: usize = 1;
+const NUMBERS: usize = 2;
+const OVER_C: usize = 3;
+const VALUE: usize = 4;
+
+/// Nanoseconds an event of each side in each run, the sides in turn.
+fn times(before: &[Event], events: &[Event]) -> Vec<[f64; 5]> {
     let mut words = Kept::filled(|| 0);
     let mut rust = Record::new(SETTINGS).expect("allowed settings");
     assert_eq!(words.renew(SETTINGS).number, 0);
@@ -242,13 +261,15 @@ fn times(before: &[Event], events: &[Event]) -> [f64; 5] {
         let reply = words.event(event);
         assert_eq!((reply.number, reply.value), rust.event(event));
     }
-    let coded: Vec<[u64; 4]> = events.iter().map(|e| words_of(e, 0)).collect();
+    let coded: Vec<Words> = events.iter().map(|e| Words(words_of(e, 0))).collect();
     let file = Filed::new(SETTINGS, [before, events].concat(), || 0);
     let mut ours = Ours::default();
-    let mut all = [const { Vec::new() }; 5];
+    let mut all = Vec::new();
     let mut lists = 1;
     for n in 0..=RUNS {
-        let (a, sum) = run(lists, &coded, &words, |words, e| value_in(words.words(e)));
+        let (a, sum) = run(lists, &coded, &words, |words, e| {
+            value_in(words.words(&e.0))
+        });
         let (b, same) = run(lists, events, &rust, |rust, e| rust.event(e).1);
         let (c, also) = run(lists, events, &words, |words, e| words.event(e).value);
         let (d, over) = run(lists, events, &rust, over_c);
@@ -262,11 +283,9 @@ fn times(before: &[Event], events: &[Event]) -> [f64; 5] {
             lists = 1 + (SPAN / (b * events.len() as f64)) as usize;
             continue;
         }
-        for (all, time) in all.iter_mut().zip([a, b, c, d, e]) {
-            all.push(time);
-        }
+        all.push([a, b, c, d, e]);
     }
-    all.map(median)
+    all
 }
 
 /// Nanoseconds an event in the median of so many lists, each from a copy made before the clock starts,
