@@ -71,8 +71,9 @@ struct hess_reply hess_record_event(const uint64_t settings[4], uint64_t slots[8
 
 /*
  * An event in four words, as a caller that keeps events has them: { at, span, HESS_EVENT_SIZES(id, len),
- * HESS_EVENT_MARKS(kind, slot, flags, acked) }. The uppermost byte of the last is not read. Aligned to 32 bytes it lies
- * in one line of the cache, which is quicker. And the parts of an answer that is one word: the refusal number, 0 if the event was accepted, and the value, 0 if it was refused.
+ * HESS_EVENT_MARKS(kind, slot, flags, acked) }. The uppermost byte of the last is not read. Aligned to 32 bytes, the
+ * words lie in one line of the cache. And the parts of an answer that is one word: the refusal number, 0 if the event
+ * was accepted, and the value, 0 if it was refused.
  */
 #define HESS_EVENT_SIZES(id, len) ((uint64_t)(id) | (uint64_t)(len) << 32)
 #define HESS_EVENT_BYTES(kind, slot, flags) ((uint64_t)(kind) | (uint64_t)(slot) << 8 | (uint64_t)(flags) << 16)
@@ -81,8 +82,8 @@ struct hess_reply hess_record_event(const uint64_t settings[4], uint64_t slots[8
 #define HESS_VALUE(answer) ((uint32_t)(answer))
 
 /*
- * The same as hess_record_event, by the four words of an event; the answer is one word. It is the quickest of the
- * three: nothing but pointers is handed over.
+ * The same as hess_record_event, by the four words of an event; the answer is one word. It is quicker than by numbers:
+ * nothing but pointers is handed over.
  */
 uint64_t hess_record_words(const uint64_t settings[4], uint64_t slots[8][65][4], const uint64_t event[4]);
 
