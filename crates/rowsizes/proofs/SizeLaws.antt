@@ -6,14 +6,14 @@ use mathlib.Core.Bool.{Bool, true, false, cond}
 use mathlib.Core.List.{List}
 use native.Mathlib.Omega.{arith}
 use borrow.Author.Tests.{lt-ltb, le-ltb, le-leb, lt-leb}
-use Rattle.base.specs.declared.types.MaybeId.{MaybeId}
 use Rattle.base.specs.declared.types.MaybeLen.{MaybeLen}
 use Rattle.base.specs.declared.types.MaybeLen.the-variants as len
 use Rattle.base.specs.declared.types.Refusal.the-variants as refusal
-use Rattle.base.proofs.Cases.{on-flag, never}
+use Rattle.base.proofs.Cases.{never}
 use Rattle.ring.specs.Ids.{takenOf, nextIds, freshIds}
 use Rattle.ring.specs.declared.types.Ids.{Ids}
-use Rattle.seek.specs.Search.{searchSize, sentSearch, settledSearch, ackedSearch, judgesOf, judgedSearch}
+use Rattle.seek.specs.Rules.{knownOf}
+use Rattle.seek.specs.Search.{searchSize, sentSearch, settledSearch, ackedSearch, judgesOf, dropOf, judgedSearch}
 use Rattle.seek.specs.Search.{provenSizes, freshSizes}
 use Rattle.seek.specs.declared.types.Ladder.{Ladder}
 use Rattle.seek.specs.declared.types.Sizes.{Sizes}
@@ -21,6 +21,7 @@ use Rattle.seek.specs.declared.types.Settled.{Settled}
 use Rattle.seek.specs.declared.types.Proved.{Proved}
 use Rattle.seek.specs.declared.types.Judged.{Judged}
 use Rattle.seek.specs.declared.types.Proving.{Proving}
+use Rattle.seek.proofs.SearchLaws.{judge-drops, judge-keeps}
 use Rattle.live.specs.Answers.{answerValue, isAccepted}
 use Rattle.live.specs.Path.{withIds, withSizes, withLadder, withMisses}
 use Rattle.live.specs.Search.{lenOr, settledBy, judgedBy, proveOf, freshOf, seekSizeOf, seekSendOf, seekAnswerOf}
@@ -151,14 +152,6 @@ module _ (a : List (List ℕ)) (e : Event) {l : Label} (f : l ≡ slotIn a .labe
 
 -- ---- judge
 
--- a probe that is not lost leaves the sizes
-waits : (s : Sizes) (answered : MaybeId) (now timeout gap : ℕ) → judgedSearch s answered now timeout gap .lost ≡ false
-    → judgedSearch s answered now timeout gap ≡ record { sizes = s; lost = false }
-unfolding judgedSearch
-waits s answered now timeout gap h =
-    on-flag (judgesOf (s .seek) (s .seek .at) answered now timeout)
-    (λ t. let z : true ≡ false = rw t at h in never refl z) (λ t. rw t)
-
 module _ (a : List (List ℕ)) (now timeout gap : ℕ) where
   -- the turn of a judge
   abbrev judging : Turn
@@ -174,32 +167,36 @@ module _ (a : List (List ℕ)) (now timeout gap : ℕ) where
   unfolding seekJudgeOf
   judge-gap h k = rw (lt-leb (2 ^ 62) timeout h, le-leb (2 ^ 62) gap k) (turns-none refl refl)
 
-  module _ {s : Sizes} {i : Ids} {d : Judged} (h : timeout < 2 ^ 62) (k : gap < 2 ^ 62) (g : s ≡ pathIn a .sizes)
-      (f : i ≡ pathIn a .ids) (e : d ≡ judgedSearch s (i .answered) now timeout gap) where
+  module _ {s : Sizes} {i : Ids} {t : Bool} (h : timeout < 2 ^ 62) (k : gap < 2 ^ 62) (g : s ≡ pathIn a .sizes)
+      (f : i ≡ pathIn a .ids) (e : t ≡ judgesOf (s .seek) (s .seek .at) (i .answered) now timeout) where
     -- what is judged
-    judged : turnBy (slotIn a) (judgedBy (pathIn a) d) ≡ judging
+    judged : {d : Judged} → d ≡ judgedSearch s (i .answered) now timeout gap
+        → turnBy (slotIn a) (judgedBy (pathIn a) d) ≡ judging
     unfolding seekJudgeOf
-    judged =
+    judged u =
         rw (lt-leb (2 ^ 62) timeout h, lt-leb (2 ^ 62) gap k)
         (ap (λ (x : Judged). turnBy (slotIn a) (judgedBy (pathIn a) x))
-        (e ∙ (λ j. judgedSearch (g j) (f j .answered) now timeout gap)))
+        (u ∙ (λ j. judgedSearch (g j) (f j .answered) now timeout gap)))
 
-    -- lost
-    pub judge-lost : {b : List (List ℕ)} → d .lost ≡ true → Says a b (withSizes (pathIn a) (d .sizes))
-        → Turns a b reply.Lost judging
-    judge-lost q w =
-        turns-as (turns-by w refl refl)
-        (ap (λ (x : Bool). turn (slotIn a) (withSizes (pathIn a) (d .sizes)) (cond x reply.Lost reply.Waits)) (sym q) ∙ judged)
+    -- the probe is lost: the search is stored
+    pub judge-lost : {b : List (List ℕ)} {n : ℕ} {d : Judged} → t ≡ true → n ≡ knownOf 27 (s .proven)
+        → d ≡ dropOf s n now gap → Says a b (withSeekIn (pathIn a) (d .sizes .seek)) → Turns a b reply.Lost judging
+    judge-lost {b} {n} {d} q o r w =
+        let u : d ≡ judgedSearch s (i .answered) now timeout gap =
+        r ∙ ap (λ (x : ℕ). dropOf s x now gap) o ∙ judge-drops s (i .answered) now timeout gap (sym e ∙ q) in
+        let v : pathIn a .sizes .proven ≡ d .sizes .proven =
+        ap (λ (x : Sizes). x .proven) (sym g) ∙ ap (λ (x : Judged). x .sizes .proven) (sym r) in
+        let z : d .lost ≡ true = ap (λ (x : Judged). x .lost) r in
+        turns-as
+        (turns-by (says-as w (λ j. withSizes (pathIn a) (record { seek = d .sizes .seek; proven = v j }))) refl refl)
+        (ap (λ (x : Bool). turn (slotIn a) (withSizes (pathIn a) (d .sizes)) (cond x reply.Lost reply.Waits)) (sym z) ∙ judged u)
 
     -- it waits
-    pub judge-waits : d .lost ≡ false → Turns a a reply.Waits judging
+    pub judge-waits : t ≡ false → Turns a a reply.Waits judging
     judge-waits q =
-        let v : d ≡ record { sizes = s; lost = false } =
-        e ∙ waits s (i .answered) now timeout gap (ap (λ (x : Judged). x .lost) (sym e) ∙ q) in
         turns-as (turns-none refl refl)
         (ap (λ (x : Sizes). turn (slotIn a) (withSizes (pathIn a) x) reply.Waits) (sym g)
-        ∙ ap (λ (x : Judged). turnBy (slotIn a) (judgedBy (pathIn a) x)) (sym v)
-        ∙ judged)
+        ∙ judged (judge-keeps s (i .answered) now timeout gap (sym e ∙ q)))
 
 -- ---- fresh
 

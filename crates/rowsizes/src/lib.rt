@@ -75,10 +75,13 @@ pub fn judge(p: &mut [[u64; 4]; ROWS], e: Event, gap: u64) -> Reply
     let old = sizes(p);
     let ids = ids(p);
     let answered = ids.answered;
-    let judged = seek::search::seek_judge(old, answered, e.now, timeout, gap);
-    if judged.lost {
+    let seek = old.seek;
+    if seek::search::judges(seek, answered, e.now, timeout) {
+        let proven = old.proven;
+        let judged = seek::search::drop_out(old, seek::sizing::known(proven), e.now, gap);
         let sizes = judged.sizes;
-        set_sizes(p, sizes);
+        let next = sizes.seek;
+        set_seek(p, next);
         return Reply::Lost;
     }
     Reply::Waits

@@ -1,4 +1,4 @@
 -- Laws of tests, of the search's steps, and of the halving.
-mod SearchLaws
+pub mod SearchLaws
 pub mod HalvingLaws
 pub mod ProvenLaws

@@ -1,6 +1,6 @@
 // The upward size search of a live path: proposal, sending, acknowledgement and judgement.
 ghost use mathlib.Core.Path.{_≡_};
-ghost use Rattle.seek.specs.Search.{searchSize, sentSearch, nextSearch, laterOf, settledOf, endOf, loseOf, settledSearch, ackedSearch, lostNow, dropOf, judgedSearch, provenSizes, freshSizes};
+ghost use Rattle.seek.specs.Search.{searchSize, sentSearch, nextSearch, laterOf, settledOf, endOf, loseOf, settledSearch, ackedSearch, lostNow, judgesOf, dropOf, judgedSearch, provenSizes, freshSizes};
 use crate::sizing::*;
 use crate::types::*;
 use base::limits::PATH_PROBE_MIN_SIZE;
@@ -181,7 +181,7 @@ fn is_lost(at: u64, id: u32, answered: MaybeId, now: u64, timeout: u64) -> bool
 }
 
 // The search probe that is out is lost, with this size for the proven one: the search goes on below it.
-fn drop_out(s: Sizes, proven: u16, now: u64, gap: u64) -> Judged
+pub fn drop_out(s: Sizes, proven: u16, now: u64, gap: u64) -> Judged
     ensures { λ r. ⌜ r ≡ dropOf s proven now gap ⌝ }
 {
     let seek = s.seek;
@@ -197,27 +197,30 @@ fn drop_out(s: Sizes, proven: u16, now: u64, gap: u64) -> Judged
     }
 }
 
+// Whether the search probe that is out is lost now.
+pub fn judges(seek: Seek, answered: MaybeId, now: u64, timeout: u64) -> bool
+    ensures { λ r. ⌜ r ≡ judgesOf seek (seek .at) answered now timeout ⌝ }
+{
+    let next = seek.at;
+    let MaybeTime::Some(at) = next else {
+        return false;
+    };
+    (seek.len != 0) & is_lost(at, seek.probe_id, answered, now, timeout)
+}
+
 // Judges the search probe that is out: it is lost, or it waits.
 pub fn seek_judge(s: Sizes, answered: MaybeId, now: u64, timeout: u64, gap: u64) -> Judged
     ensures { λ r. ⌜ r ≡ judgedSearch s answered now timeout gap ⌝ }
 {
     let seek = s.seek;
-    let waits = Judged {
+    if judges(seek, answered, now, timeout) {
+        let proven = s.proven;
+        return drop_out(s, known(proven), now, gap);
+    }
+    Judged {
         sizes: s,
         lost: false,
-    };
-    let next = seek.at;
-    let MaybeTime::Some(at) = next else {
-        return waits;
-    };
-    if (seek.len == 0) | !is_lost(at, seek.probe_id, answered, now, timeout) {
-        return waits;
     }
-    let proven = s.proven;
-    let MaybeLen::Some(size) = proven else {
-        return drop_out(s, PATH_PROBE_MIN_SIZE, now, gap);
-    };
-    drop_out(s, size, now, gap)
 }
 
 // Takes `len` bytes as proven, by a probe of the ring.
