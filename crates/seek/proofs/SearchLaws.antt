@@ -5,7 +5,7 @@ use mathlib.Core.Bool.{Bool, true, false, cond}
 use Prim.Native.Nat.{ℕ, _<_, _≤_, min}
 use borrow.Author.Tests.{lt-ltb, le-ltb}
 use Rattle.base.specs.declared.types.MaybeLen.{MaybeLen}
-use Rattle.base.specs.declared.types.MaybeLen.the-variants.{None, Some}
+use Rattle.base.specs.declared.types.MaybeLen.the-variants.{None}
 use Rattle.seek.specs.Rules.{risesOf, raisedOf, lostWith, ackedOf, knownOf}
 use Rattle.seek.specs.Search.{withSeek, endOf, proposeOf, ackedSearch, judgesOf, dropOf, judgedSearch}
 use Rattle.base.specs.declared.types.MaybeId.{MaybeId}
