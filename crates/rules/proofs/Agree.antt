@@ -24,7 +24,7 @@ use Rattle.rules.specs.declared.types.Slot.{Slot}
 use Rattle.rules.proofs.Line.{Lane, laneOf, outCount, Line, new-line}
 use Rattle.halving.specs.Need.{span}
 use Rattle.halving.specs.Moves as size
-use Rattle.halving.specs.Moves.{move}
+use Rattle.halving.specs.Moves.{move, MoveSends}
 use Rattle.halving.proofs.Moves.{Kept, opened-kept, opened-under, out-of, by-move, Under}
 
 -- slot and book: they agree; the ring is the waiting line; the search is within its budget, for any bound that full
@@ -174,9 +174,10 @@ module _ (t : Settings) (s : Slot) (b₀ : Book) where
         }
 
     -- the search after a move
-    pub move-kept : (m : size.Move) (k : ℕ) → s .label .full ≤ 27 + span k
+    pub move-kept : (m : size.Move) → MoveSends (s .label .full) (searchOf z) m
+        → (k : ℕ) → s .label .full ≤ 27 + span k
         → Kept (s .label .full) k (move (s .label .full) (b .sizing .tally) m)
-    move-kept m k w = by-move (s .label .full) k w (b .sizing .tally) m (h .sizing k w)
+    move-kept m q k w = by-move (s .label .full) k w (b .sizing .tally) m q (h .sizing k w)
 
     -- where a probe is out something is proven, and the probe is no longer than full
     pub known : 1 ≤ z .seek .len → (z .seek .len ≤ s .label .full) × ((n : ℕ) × (z .proven ≡ len.Some n))

@@ -6,7 +6,7 @@ use mathlib.Core.Path.{_≡_, refl, ap, sym, _∙_, subst}
 use mathlib.Core.List.{[], _∷_}
 use native.Mathlib.Omega.{arith}
 use lib.Dec.{eqb}
-use borrow.Author.Tests.{eqb-true}
+use borrow.Author.Tests.{eqb-true, eq-eqb}
 use Rattle.base.specs.Limits.{minLen, isOverlong, isUndersize, isEndless}
 use Rattle.base.specs.declared.types.Refusal.{Refusal}
 use Rattle.base.specs.declared.types.Refusal.the-variants as refusal
@@ -85,7 +85,7 @@ module _ (t : Settings) (s : Slot) (b₀ : Book) where
           };
           line = line-less t (laneOf p) (b .probes) (outCount z) (λ x. 0) (λ x. omega arith) (h .line);
           whole = h .whole;
-          sizing = move-kept t s b₀ h size.Fresh;
+          sizing = move-kept t s b₀ h size.Fresh tt;
           limit = λ L w. under-move L (s .label .full) T size.Fresh (h .limit L w) tt;
         }
 
@@ -106,7 +106,7 @@ module _ (t : Settings) (s : Slot) (b₀ : Book) where
           };
           line = h .line;
           whole = h .whole;
-          sizing = move-kept t s b₀ h (size.Prove (e₀ .len));
+          sizing = move-kept t s b₀ h (size.Prove (e₀ .len)) tt;
           limit = λ L w. under-move L (s .label .full) T (size.Prove (e₀ .len)) (h .limit L (w .1)) (w .0);
         }
 
@@ -122,7 +122,7 @@ module _ (t : Settings) (s : Slot) (b₀ : Book) where
     -- ---- search
 
     -- a size is proposed
-    abbrev Proposes : ℕ → Type 0
+    abbrev pub Proposes : ℕ → Type 0
     Proposes n = (z .seek .len ≡ 0) × (search.proposeOf (z .seek .lost) (z .proven) (s .label .full) ≡ len.Some n)
 
     proposes : (n : ℕ) → search.searchSize z (s .label .full) now ≡ len.Some n → Proposes n
@@ -135,6 +135,9 @@ module _ (t : Settings) (s : Slot) (b₀ : Book) where
         go true true f q = (eqb-true (z .seek .len) 0 f, q)
         go true false f q = none-some q
         go false g f q = none-some q
+
+    pub proposed-is : (n : ℕ) → Proposes n → size.proposed (s .label .full) (searchOf z) ≡ len.Some n
+    proposed-is n q = rw (eq-eqb (z .seek .len) 0 (q .0)) (q .1)
 
     out-most : (n v x : ℕ) → cond (eqb n 0) 0 (occ x (v ∷ [])) ≤ occ x (v ∷ [])
     out-most n v x = cond-cases (λ (m : ℕ). m ≤ occ x (v ∷ [])) (eqb n 0) 0 (occ x (v ∷ [])) (λ f. omega arith)
@@ -158,26 +161,33 @@ module _ (t : Settings) (s : Slot) (b₀ : Book) where
               (λ x. cond (eqb n 0) 0 (occ x (v ∷ [])))
               (out-most n (takenOf (p .ids .«next_id») (e₀ .id))) few;
           whole = h .whole;
-          sizing = move-kept t s b₀ h size.Send;
+          sizing = move-kept t s b₀ h size.Send (n, proposed-is n q);
           limit = λ L w. under-move L (s .label .full) T size.Send (h .limit L w) tt;
         }
 
-    by-size : (o : MaybeLen) → ((n : ℕ) → o ≡ len.Some n → Proposes n)
-        → N 8 (searched (live.lenOr refusal.NoSize o) s (e 8))
-    unfolding live.seekSendOf
-    by-size len.None q = no 8 refusal.NoSize
-    by-size (len.Some n) q =
-        cond-cases (λ (x : Outcome). N 8 (turnBy s x)) (isOverlong n) _ _
-        (λ f. no 8 refusal.Length) (λ f. searched-kept n (q n refl))
+    -- the cases of a search: refused, or a size is proposed and sent
+    module _ (Q : Turn → Type 0) (no : (why : Refusal) → Q (turn s p (reply.Refused why)))
+        (yes : (n : ℕ) → Proposes n
+        → Q (turnBy s (live.seekSentAt (takeIdOf p (e₀ .id) .path) now n (takeIdOf p (e₀ .id) .id)))) where
+      size-cases : (o : MaybeLen) → ((n : ℕ) → o ≡ len.Some n → Proposes n)
+          → Q (searched (live.lenOr refusal.NoSize o) s (e 8))
+      unfolding live.seekSendOf
+      size-cases len.None q = no refusal.NoSize
+      size-cases (len.Some n) q =
+          cond-cases (λ (x : Outcome). Q (turnBy s x)) (isOverlong n) _ _
+          (λ f. no refusal.Length) (λ f. yes n (q n refl))
+
+      pub search-cases : Q (searched (live.seekSizeOf p (s .label .full) now) s (e 8))
+      unfolding live.seekSizeOf
+      search-cases =
+          cond-cases (λ (x : Answer). Q (searched x s (e 8))) (isOverlong (s .label .full)) _ _
+          (λ f. no refusal.Length)
+          (λ f. cond-cases (λ (x : Answer). Q (searched x s (e 8))) (isUndersize (s .label .full)) _ _
+          (λ g. no refusal.Length)
+          (λ g. size-cases (search.searchSize z (s .label .full) now) proposes))
 
     pub by-search : Work t s e₀ N 8
-    unfolding live.seekSizeOf
-    by-search ok =
-        cond-cases (λ (x : Answer). N 8 (searched x s (e 8))) (isOverlong (s .label .full)) _ _
-        (λ f. no 8 refusal.Length)
-        (λ f. cond-cases (λ (x : Answer). N 8 (searched x s (e 8))) (isUndersize (s .label .full)) _ _
-        (λ g. no 8 refusal.Length)
-        (λ g. by-size (search.searchSize z (s .label .full) now) proposes))
+    by-search ok = search-cases (N 8) (no 8) searched-kept
 
     -- ---- judge
 
@@ -229,7 +239,7 @@ module _ (t : Settings) (s : Slot) (b₀ : Book) where
               line-less t (laneOf q) (b .probes) (outCount z) (outCount (q .sizes)) (none-count (q .sizes) z n)
               (subst (λ (l : Lane). Line t l (b .probes) (outCount z)) (sym f) (h .line));
           whole = h .whole;
-          sizing = move-kept t s b₀ h size.Judge;
+          sizing = move-kept t s b₀ h size.Judge tt;
           limit = λ L w. under-move L (s .label .full) T size.Judge (h .limit L (w .1)) (λ y. w .0);
         })
 
