@@ -44,7 +44,7 @@ still t a {x} {s} y q e =
 
 -- the answer to an event whose slot is none
 beyond : (t : Settings) (e : Event) → 7 < e .slot
-    → beyondOf (verdictOf (refusals false e)) ≡ onSlot t emptySlot e .reply
+    → beyondOf (verdictOf (refusals t false e)) ≡ onSlot t emptySlot e .reply
 unfolding onSlot
 beyond t e h =
     let k : ltb 7 (e .slot) ≡ true = lt-ltb 7 (e .slot) h in
@@ -56,7 +56,7 @@ module _ (t : List ℕ) (a : List (List (List ℕ))) (e : Event) where
   steps-choose k q = still t a (chosenOf (map slotIn a) (e .span)) q (step-choose (recordIn t a) e k)
 
   pub steps-out : {x : Reply} → length a ≡ 8 → eqb (e .kind) 15 ≡ false → 7 < e .slot
-      → x ≡ beyondOf (verdictOf (refusals false e)) → Steps t a a x (step (recordIn t a) e)
+      → x ≡ beyondOf (verdictOf (refusals (settingsIn t) false e)) → Steps t a a x (step (recordIn t a) e)
   steps-out {x} n k h q =
       let o : length (map slotIn a) ≤ e .slot = omega (arith, length-map a slotIn) in
       still t a (onSlot (settingsIn t) emptySlot e .reply) (q ∙ beyond (settingsIn t) e h) (step-out (recordIn t a) e k o)

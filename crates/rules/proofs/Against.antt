@@ -3,7 +3,7 @@
 -- is refused first of an edit is the list of its name. once-draws and twelve-eleven have none: they change a number of the
 -- claim itself, and are refused where the theorem needs it.
 -- Assumes nothing.
-use Prim.Native.Nat.{ℕ, zero, suc, _≤_}
+use Prim.Native.Nat.{ℕ, zero, suc, _≤_, _^_}
 use mathlib.Core.Bool.{Bool, false}
 use mathlib.Core.Path.{_≡_, refl}
 use mathlib.Core.List.{List, [], _∷_, _++_, map}
@@ -143,9 +143,35 @@ settled-early = refl
 
 -- ---- order: the refusals are tried in the table's order, 15 first
 
-order-kind : (used : Bool) (e : Event)
-    → map (λ x. refusalNumber (x .0)) (refusals used e) ≡ 15 ∷ 1 ∷ 2 ∷ 3 ∷ 4 ∷ 5 ∷ 6 ∷ []
-order-kind used e = refl
+order-kind : (t : Settings) (used : Bool) (e : Event)
+    → map (λ x. refusalNumber (x .0)) (refusals t used e) ≡ 15 ∷ 1 ∷ 2 ∷ 3 ∷ 4 ∷ 5 ∷ 6 ∷ []
+order-kind t used e = refl
+
+-- ---- settings: one of 2^62 or more that an event reads gives 6: poll the cap; answer and judge the gap; sample window and
+-- horizon. No other event reads one
+
+abbrev long : ℕ
+long = 2 ^ 62
+
+settings-cap : answers (settings long 1 1 1) (opens 27 0 ∷ poll ∷ []) ≡ (0, 0) ∷ (6, 0) ∷ []
+unfolding answers
+settings-cap = refl
+
+settings-gap : answers (settings 1 long 1 1) (opens 27 0 ∷ poll ∷ answer 7 ∷ judge 0 ∷ [])
+    ≡ (0, 0) ∷ (0, 0) ∷ (6, 0) ∷ (6, 0) ∷ []
+unfolding answers
+settings-gap = refl
+
+abbrev sample : Event
+sample = event 5 0 0 0 0 0 0 0
+
+settings-window : answers (settings 1 1 long 1) (opens 27 0 ∷ poll ∷ sample ∷ []) ≡ (0, 0) ∷ (0, 0) ∷ (6, 0) ∷ []
+unfolding answers
+settings-window = refl
+
+settings-horizon : answers (settings 1 1 1 long) (opens 27 0 ∷ judge 0 ∷ sample ∷ []) ≡ (0, 0) ∷ (0, 0) ∷ (6, 0) ∷ []
+unfolding answers
+settings-horizon = refl
 
 -- ---- agrees: an open's flags; fresh; when a search probe was sent, and what size
 
