@@ -4,7 +4,7 @@ ghost use mathlib.Core.Path.{_≡_};
 ghost use mathlib.Core.Bool.{cond};
 ghost use mathlib.Core.List.{[]};
 ghost use lib.ListN.{length};
-ghost use Rattle.rules.specs.Step.{allowed, freshRecord, recordOf, step};
+ghost use Rattle.rules.specs.Step.{allowed, freshRecord, recordOf};
 ghost use Rattle.eventfile.specs.File.{parseOf};
 ghost use Rattle.standing.specs.Standing.{slotWritten, slotOut};
 ghost use Rattle.cells.specs.Cells.{eventIn};
@@ -122,7 +122,7 @@ pub extern "C" fn hess_record_words(
     event: &[u64; 4],
 ) -> u64
     ensures { λ r. ⌜ Tells (now (settings .entry)) (now (slots .entry)) (now (slots .exit)) r
-        (step (recordIn (now (settings .entry)) (now (slots .entry))) (eventIn (now (event .entry)))) ⌝ }
+        (eventIn (now (event .entry))) ⌝ }
 {
     rowpeer::record::tell(settings, slots, event)
 }

@@ -11,7 +11,6 @@ use Rattle.base.specs.Refusals.{refusalNumber}
 use Rattle.base.proofs.Cases.{never}
 use Rattle.octets.specs.Octets.{over}
 use Rattle.octets.proofs.Fill.{Filled, nothing, filled-over}
-use Rattle.rules.specs.Step.{step}
 use Rattle.rules.specs.declared.types.Event.{Event}
 use Rattle.rules.specs.declared.types.Record.{Record}
 use Rattle.rules.specs.declared.types.Reply.{Reply}
@@ -125,7 +124,7 @@ module _ {l₀ l t : List ℕ} {a₀ : List (List (List ℕ))} {n₀ p₀ most :
 
   -- an event on the words, and its line
   pub going-next : {x : Parse} {e : Event} {next r n′ : ℕ} {b : List (List (List ℕ))} {reply : Reply} {m : List ℕ}
-      → i < most → x ≡ parseOf l p → x ≡ parse.Event e next → Steps t a b reply (step (recordIn t a) e)
+      → i < most → x ≡ parseOf l p → x ≡ parse.Event e next → Steps t a b reply e
       → (r ≡ at + written (eventLine n e reply) (drop at out)) × (m ≡ laidAt at (eventLine n e reply) out)
       → n′ ≡ (n + 1) % 2 ^ 64 → Going l₀ l t a₀ n₀ p₀ most m b n′ next r (i + 1)
   going-next {x} {e} {next} {r} {n′} {b} {reply} {m} h c q s w en =
