@@ -173,7 +173,7 @@ settings-horizon : answers (settings 1 1 1 long) (opens 27 0 ∷ judge 0 ∷ sam
 unfolding answers
 settings-horizon = refl
 
--- ---- agrees: an open's flags; fresh; when a search probe was sent, and what size
+-- ---- agrees: an open's flags; fresh; when a search probe was sent, and what size; the next try after a judge
 
 agrees-fits : Marked (opens 27 32 ∷ [])
 unfolding answers noted
@@ -194,11 +194,20 @@ agrees-at : slotAfter t out 0 .path .sizes .seek .at ≡ time.Some (bookAfter t 
 unfolding answers noted
 agrees-at = refl
 
-agrees-full : Searched (opens 60 0 ∷ prove 27 ∷ search 0 ∷ probe ∷ answer 1 ∷ judge 0 ∷ search 3 ∷ [])
+-- 60 is lost
+abbrev missed : List Event
+missed = opens 60 0 ∷ prove 27 ∷ search 0 ∷ probe ∷ answer 1 ∷ judge 0 ∷ []
+
+agrees-next : slotAfter t missed 0 .path .sizes .seek .at ≡ bookAfter t missed 0 .sizing .next
+unfolding answers noted
+agrees-next = refl
+
+agrees-full : Searched (missed ++ search 3 ∷ [])
 unfolding answers noted
 agrees-full = refl
 
--- ---- sought: with nothing proven nothing is proposed. twelve: with a search probe out none either
+-- ---- sought: with nothing proven nothing is proposed, nor before the next try. twelve: with a search probe out none
+-- either
 
 -- the entry of one more event
 abbrev gives : List Event → Event → Entry
@@ -209,6 +218,11 @@ sought-none : Sought (bookAfter t (opens 27 0 ∷ [])) (gives (opens 27 0 ∷ []
     (bookAfter t (opens 27 0 ∷ search 0 ∷ []))
 unfolding answers noted
 sought-none j a = absurd (omega (arith, a .0))
+
+-- the next try is 3
+sought-early : Sought (bookAfter t missed) (gives missed (search 2)) (bookAfter t (missed ++ search 2 ∷ []))
+unfolding answers noted
+sought-early j a = absurd (omega (arith, a .0))
 
 abbrev searches : ℕ → List Event
 searches zero = []

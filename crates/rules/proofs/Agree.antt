@@ -47,6 +47,7 @@ new-inv t s m e a f =
         search = ap (λ (p : Liveness). searchOf (p .sizes)) e;
         probe = λ o. absurd (omega arith);
         probeAt = λ o. absurd (omega arith);
+        next = λ o. ap (λ (p : Liveness). p .sizes .seek .at) e;
       };
       line = subst (λ (p : Liveness). Line t (laneOf p) (newBook m .probes) (outCount (p .sizes))) (sym e)
           (new-line t m);
@@ -79,6 +80,7 @@ align s b =
         };
         probe = b .sizing .probe;
         probeAt = b .sizing .probeAt;
+        next = b .sizing .next;
         words = b .sizing .words;
       };
     }
@@ -106,6 +108,7 @@ aligned t s b h = λ i.
         };
         probe = b .sizing .probe;
         probeAt = b .sizing .probeAt;
+        next = b .sizing .next;
         words = b .sizing .words;
       };
     }
@@ -164,6 +167,7 @@ module _ (t : Settings) (s : Slot) (b₀ : Book) where
             search = ap (λ (x : Sizes). searchOf x) g;
             probe = λ o. ap (λ (x : Sizes). x .seek .«probe_id») g ∙ h .agrees .probe o;
             probeAt = λ o. ap (λ (x : Sizes). x .seek .at) g ∙ h .agrees .probeAt o;
+            next = λ o. ap (λ (x : Sizes). x .seek .at) g ∙ h .agrees .next o;
           };
           line =
               subst (λ (l : Lane). Line t l (b .probes) (outCount (q .sizes))) (sym f)

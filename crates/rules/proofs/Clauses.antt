@@ -67,11 +67,11 @@ module _ (t : Settings) (b : Book) (e : Event) (v : ℕ) where
       (λ f. rw f) f
 
   -- the size out after a search is the one proposed
-  sought-out : is Search e ≡ true → (w : Proposed b) → w .0 ≡ outSize (noted t b e v)
+  sought-out : is Search e ≡ true → (w : Proposed b (e .now)) → w .0 ≡ outSize (noted t b e v)
   unfolding noted
   sought-out q w = by-number (λ (x : Event). w .0 ≡ outSize (noted t b x v)) Search e q (rw (w .1))
 
-  pub sought-noted : is Search e ≡ true → Proposed b
+  pub sought-noted : is Search e ≡ true → Proposed b (e .now)
       → proposed (b .marks .full) (b .sizing .tally .search) ≡ len.Some (outSize (noted t b e v))
   sought-noted q w = w .1 ∙ ap (λ (n : ℕ). len.Some n) (sought-out q w)
 
@@ -144,11 +144,13 @@ module _ (t : Settings) (before after : ℕ → Slot) (bs : Books) (x : Entry) (
   pub twelve-at : AtMost 12 bs x (note t bs x)
   twelve-at = few-at 11 (λ j. omega (arith, n j .whole))
 
-  pub sought-at : ((j : ℕ) → Accepted Search j x → Proposed (bs j)) → Sought bs x (note t bs x)
-  sought-at w j a =
-      subst (λ (b : Book). proposed (bs j .marks .full) (bs j .sizing .tally .search) ≡ len.Some (outSize b))
-      (sym (noted-at j (a .0) (a .1)))
-      (sought-noted t (bs j) (x .event) (x .value) (a .2) (w j a))
+  pub sought-at : ((j : ℕ) → Accepted Search j x → Proposed (bs j) (x .event .now)) → Sought bs x (note t bs x)
+  sought-at w j a = (
+    w j a .2,
+    subst (λ (b : Book). proposed (bs j .marks .full) (bs j .sizing .tally .search) ≡ len.Some (outSize b))
+        (sym (noted-at j (a .0) (a .1)))
+        (sought-noted t (bs j) (x .event) (x .value) (a .2) (w j a)),
+  )
 
   pub rested-at : Rested bs x (note t bs x)
   rested-at L j m w pm rest = (n j .limit L w .0 m pm, go rest)

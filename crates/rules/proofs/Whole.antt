@@ -71,7 +71,7 @@ record Did (t : Settings) (r : Record) (bs : Books) (e : Event) (o : Stepped) : 
   next : Few bs (entry e o) (note t bs (entry e o)) → Good t (o .next) (note t bs (entry e o))
   settled : Settled bs (entry e o) (note t bs (entry e o))
   chosen : Chosen bs (entry e o) (note t bs (entry e o))
-  sought : (j : ℕ) → Accepted Search j (entry e o) → Proposed (bs j)
+  sought : (j : ℕ) → Accepted Search j (entry e o) → Proposed (bs j) (e .now)
 
 module _ (t : Settings) (small : allowed t ≡ true) (r : Record) (bs : Books) (g : Good t r bs) (e : Event) where
   abbrev i : ℕ
@@ -183,7 +183,7 @@ module _ (t : Settings) (small : allowed t ≡ true) (r : Record) (bs : Books) (
           λ a. subst (λ (n : ℕ). valueOf (u .reply) ≡ judgeSays (bs n) e) (a .1) (w (a .0) .1 (a .2)),
         );
         chosen = λ q m. never q c;
-        sought = λ j a. subst (λ (n : ℕ). Proposed (bs n)) (a .1) (w (a .0) .2 (a .2));
+        sought = λ j a. subst (λ (n : ℕ). Proposed (bs n) (e .now)) (a .1) (w (a .0) .2 (a .2));
       }
 
   did : Did t r bs e (step r e)
