@@ -6,7 +6,6 @@ use super::live::{Answer, Liveness};
 use super::script::{Image, duration, length, whole};
 use super::select::{self, Field, Rival};
 use super::set::{Medium, PATH_MAX_PER_PEER};
-use crate::time::Duration;
 
 /// Slots of a record.
 pub const SLOTS: usize = PATH_MAX_PER_PEER;
