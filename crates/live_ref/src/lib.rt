@@ -5,26 +5,28 @@ ghost use Rattle.live.specs.Probe.{sendOf, answerOf};
 ghost use Rattle.live.specs.declared.types.Outcome.{Outcome};
 use live::types::*;
 
-// The by-value core's `send` and `answer`, as functions.
+// The by-value core's `send`, as a function.
 fn sent(l: Liveness, at: u64, due: u64, len: u32, draw: u32) -> Outcome
     ensures { λ r. ⌜ r ≡ sendOf l at due len draw ⌝ }
 {
     l.send(at, due, len, draw)
 }
 
+// The by-value core's `answer`, as a function.
 fn answered(l: Liveness, id: u32) -> Outcome
     ensures { λ r. ⌜ r ≡ answerOf l id ⌝ }
 {
     l.answer(id)
 }
 
-// The two parts of an outcome.
+// The path of an outcome.
 fn path_of(s: Outcome) -> Liveness
     ensures { λ r. ⌜ r ≡ s .path ⌝ }
 {
     s.path
 }
 
+// The answer of an outcome.
 fn answer_of(s: Outcome) -> Answer
     ensures { λ r. ⌜ r ≡ s .answer ⌝ }
 {
@@ -60,7 +62,7 @@ fn outcome(p: Liveness, a: Answer) -> Outcome
     Outcome { path: p, answer: a }
 }
 
-// A caller on plain parameters: the by-value answer, through a reference to a local.
+// A caller of `answer` on plain parameters: the by-value answer, through a reference to a local.
 pub fn answer_in(l: Liveness, id: u32) -> Outcome
     ensures { λ r. ⌜ r ≡ answerOf l id ⌝ }
 {
@@ -69,7 +71,7 @@ pub fn answer_in(l: Liveness, id: u32) -> Outcome
     outcome(p, a)
 }
 
-// The same of a send.
+// A caller of `send` on plain parameters: the by-value send, through a reference to a local.
 pub fn send_in(l: Liveness, at: u64, due: u64, len: u32, draw: u32) -> Outcome
     ensures { λ r. ⌜ r ≡ sendOf l at due len draw ⌝ }
 {

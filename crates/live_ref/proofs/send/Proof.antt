@@ -24,7 +24,7 @@ use sound.WpLaws.{FmC, fmOf, WpFn-mono}
 use denote.RattleType.{owns}
 use denote.Laws.{Is, shows}
 use denote.Memory.{mem, pointee}
-use denote.Plain.{uint-vals, uint-tells, uint-makes, uint-lawful}
+use denote.Plain.{uint-vals, uint-tells, uint-makes}
 use denote.Builtin.{u32, u64}
 use denote.Ref.{RefT, MutRef, ptr-vals, mut-tells}
 use denote.Signature.{plain}
@@ -66,20 +66,7 @@ use Rattle.live_ref.proofs.send.Key.{name as #self}
 use Rattle.live_ref.proofs.send as self
 use Rattle.live_ref.proofs.send.Statement as stated
 use Rattle.live_ref.proofs.send.Code as code
-
--- the first type of a row
-abbrev one : List syn.Ty → syn.Ty
-one [] = syn.tyBool
-one (τ ∷ τs) = τ
-
-abbrev τT : syn.Ty
-τT = one (T.the-row .mir)
-
-abbrev τS : syn.Ty
-τS = one (S.the-row .mir)
-
-abbrev τR : syn.Ty
-τR = one (R.the-row .mir)
+use Rattle.live_ref.proofs.Shared.{τT, τS, τR, vals, NewOf, ResOf, new-of, res-of, to-new, to-res, goes-new, goes-res}
 
 -- the function, with its types from their rows: the MIR names them, and spells each anew wherever it is looked at
 abbrev shaped : syn.Fn
@@ -106,29 +93,13 @@ Arg = RefT Liveness × (ℕ × (ℕ × (ℕ × (ℕ × Unit {0}))))
 abbrev stayed : Stays (self.ended .signature .params) (self.ended .kept)
 stayed = (stay-ref (0 ∷ []) tt (plain (λ _. T.the-row)), (stay-none (λ _. u64) yes, (stay-none (λ _. u64) yes, (stay-none (λ _. u32) yes, (stay-none (λ _. u32) yes, tt)))))
 
-abbrev vals : Liveness → List Val
-vals = LL.vals T.the-type T′.the-laws
-
 module _ {M : Type 1} (𝓤 : URA M) (H : Heap 𝓤) (A : Atoms 𝓤) (at-mem : Memory → SProp 𝓤) (run : Routine → Fun 𝓤) where
-  -- the contracts that the proof cites
+  -- the contract of the core, and its clause alone
   abbrev Core : Contract 𝓤
   Core = tripleOf 𝓤 H A core.signature (core.spec 𝓤 H A at-mem run)
 
-  abbrev NewOf : Contract 𝓤
-  NewOf = tripleOf 𝓤 H A live.signature (live.spec 𝓤 H A at-mem run)
-
-  abbrev ResOf : Contract 𝓤
-  ResOf = tripleOf 𝓤 H A ident.signature (ident.spec 𝓤 H A at-mem run)
-
-  -- of each callee's `ensured`, the clause alone
   core-of : (h : Liveness) (n1 n2 n3 n4 : ℕ) (r : Outcome) → ent 𝓤 (ensured 𝓤 H A core.ended (core.clauses 𝓤 H A at-mem run) tt (h, (n1, (n2, (n3, (n4, tt))))) tt r) (fact 𝓤 (r ≡ sendOf h n1 n2 n3 n4))
   core-of h n1 n2 n3 n4 r = exE 𝓤 _ (λ ws. snd∗ 𝓤 (sem 𝓤 H A (lasts core.ended tt (h, (n1, (n2, (n3, (n4, tt))))) ws)) (fact 𝓤 (r ≡ sendOf h n1 n2 n3 n4)))
-
-  new-of : (s : Outcome) (r : Liveness) → ent 𝓤 (ensured 𝓤 H A live.ended (live.clauses 𝓤 H A at-mem run) tt (s, tt) tt r) (fact 𝓤 (r ≡ s .path))
-  new-of s r = exE 𝓤 _ (λ ws. snd∗ 𝓤 (sem 𝓤 H A (lasts live.ended tt (s, tt) ws)) (fact 𝓤 (r ≡ s .path)))
-
-  res-of : (s : Outcome) (r : Answer) → ent 𝓤 (ensured 𝓤 H A ident.ended (ident.clauses 𝓤 H A at-mem run) tt (s, tt) tt r) (fact 𝓤 (r ≡ s .answer))
-  res-of s r = exE 𝓤 _ (λ ws. snd∗ 𝓤 (sem 𝓤 H A (lasts ident.ended tt (s, tt) ws)) (fact 𝓤 (r ≡ s .answer)))
 
 module _ {M : Type 1} (𝓤 : URA M) (H : Heap 𝓤) (A : Atoms 𝓤) (W : Given 𝓤 H A) (at-mem : Memory → SProp 𝓤) (run : Routine → Fun 𝓤) (κ : Lft) (q : Share) (b o : ℕ) (γ : GName) (h : Liveness) (n1 n2 n3 n4 : ℕ) where
   abbrev x : Arg
@@ -153,18 +124,6 @@ module _ {M : Type 1} (𝓤 : URA M) (H : Heap 𝓤) (A : Atoms 𝓤) (W : Given
   goes-core : n1 < 2 ^ 64 → n2 < 2 ^ 64 → n3 < 2 ^ 32 → n4 < 2 ^ 32 → ent 𝓤 (sem 𝓤 H A (T.the-row .own h (vals h))) (Core 𝓤 H A at-mem run .pre to-core)
   goes-core fits1 fits2 fits3 fits4 = qed W (‵ (T.the-row .own h (vals h)) ∷ []) ∵ nothing ! $ owned ! u32 (Is u32) (uint-makes 𝓤 H A W w32) n4 _ (refl, fits4) $ fjoin ! $ owned ! u32 (Is u32) (uint-makes 𝓤 H A W w32) n3 _ (refl, fits3) $ fjoin ! $ owned ! u64 (Is u64) (uint-makes 𝓤 H A W w64) n2 _ (refl, fits2) $ fjoin ! $ owned ! u64 (Is u64) (uint-makes 𝓤 H A W w64) n1 _ (refl, fits1) $ fjoin ! $ move ! (1 ∷ 0 ∷ []) $ fjoin ! $ nothing ! $ join ! $ frame ! $ done !
 
-  abbrev to-new : Outcome → Val → NewOf 𝓤 H A at-mem run .Ghost
-  to-new r v = ((tt, tt, tt, (r, tt), (v ∷ [], tt)), tt)
-
-  goes-new : (r : Outcome) (v : Val) → ent 𝓤 (sem 𝓤 H A (S.the-row .own r (v ∷ []))) (NewOf 𝓤 H A at-mem run .pre (to-new r v))
-  goes-new r v = qed W (‵ (S.the-row .own r (v ∷ [])) ∷ []) ∵ nothing ! $ move ! (1 ∷ 0 ∷ []) $ join ! $ nothing ! $ join ! $ frame ! $ done !
-
-  abbrev to-res : Outcome → Val → ResOf 𝓤 H A at-mem run .Ghost
-  to-res r v = ((tt, tt, tt, (r, tt), (v ∷ [], tt)), tt)
-
-  goes-res : (r : Outcome) (v : Val) → ent 𝓤 (sem 𝓤 H A (S.the-row .own r (v ∷ []))) (ResOf 𝓤 H A at-mem run .pre (to-res r v))
-  goes-res r v = qed W (‵ (S.the-row .own r (v ∷ [])) ∷ []) ∵ nothing ! $ move ! (1 ∷ 0 ∷ []) $ join ! $ nothing ! $ join ! $ frame ! $ done !
-
   module _ (C : Calls 𝓤 H) (Λ : Loops 𝓤 H) (fm : FmC 𝓤 H (W .laws) C) (known-core : Triple 𝓤 (C #core) (Core 𝓤 H A at-mem run)) (known-new : Triple 𝓤 (C #live) (NewOf 𝓤 H A at-mem run)) (known-res : Triple 𝓤 (C #ident) (ResOf 𝓤 H A at-mem run)) where
     walk : ent 𝓤 (onEntry 𝓤 H A self.signature (κ, tt) (q, tt) x at) (WpFn 𝓤 H C Λ shaped (vptr b o ∷ vint w64 n1 ∷ vint w64 n2 ∷ vint w32 n3 ∷ vint w32 n4 ∷ []) Post)
     walk =
@@ -188,8 +147,8 @@ module _ {M : Type 1} (𝓤 : URA M) (H : Heap 𝓤) (A : Atoms 𝓤) (W : Given
         peeks ! S.the-row (Is S.the-row) (shows 𝓤 H A S.the-row) r (v ∷ []) (λ is-r.
         -- [what r owns; the struct's cell; the open borrow; obs; auth; the locals]
         land ! (from ! (stop !)) (init ! 9 refl (LL.lawful S.the-type S′.the-laws 𝓤 H A W .typed r (v ∷ []) is-r .0)) $
-        use1 W (raw (NewOf 𝓤 H A at-mem run .pre (to-new r v))) (goes-new r v) $
-        calls-at ! fm (NewOf 𝓤 H A at-mem run) known-new (to-new r v) (and-then ! (load ! (from ! (stop !)) (look ! 9 refl)) (no-more !)) (λ v2.
+        use1 W (raw (NewOf 𝓤 H A at-mem run .pre (to-new 𝓤 H A at-mem run r v))) (goes-new 𝓤 H A W at-mem run r v) $
+        calls-at ! fm (NewOf 𝓤 H A at-mem run) known-new (to-new 𝓤 H A at-mem run r v) (and-then ! (load ! (from ! (stop !)) (look ! 9 refl)) (no-more !)) (λ v2.
         use1 W (later (some (λ (r2 : Liveness). (‵ ftrue ⊛ ‵ (T.the-row .own r2 (v2 ∷ []))) ⊛ raw (ensured 𝓤 H A live.ended (live.clauses 𝓤 H A at-mem run) tt (r, tt) tt r2)))) (id⊢ 𝓤 _) $ await ! tt $ pick ! (λ r2.
         split ! $ move ! (1 ∷ []) $ use1 W (raw (fact 𝓤 (r2 ≡ r .path))) (new-of 𝓤 H A at-mem run r r2) $ heard ! (r2 ≡ r .path) (λ e-r2. split ! $ drop ! $
         peeks ! T.the-row (Is T.the-row) (shows 𝓤 H A T.the-row) r2 (v2 ∷ []) (λ is-r2.
@@ -198,8 +157,8 @@ module _ {M : Type 1} (𝓤 : URA M) (H : Heap 𝓤) (A : Atoms 𝓤) (W : Given
         move ! (1 ∷ 0 ∷ []) $ closes ! tt T.the-row r2 (v2 ∷ []) b o $
         -- [obs; the borrow; the token; the locals]
         owned ! S.the-row (Is S.the-row) ((LL.makes S.the-type S′.the-plain) 𝓤 H A) r _ is-r $
-        use1 W (raw (ResOf 𝓤 H A at-mem run .pre (to-res r v))) (goes-res r v) $
-        calls-at ! fm (ResOf 𝓤 H A at-mem run) known-res (to-res r v) (and-then ! (load ! (from ! (stop !)) (look ! 8 refl)) (no-more !)) (λ v3.
+        use1 W (raw (ResOf 𝓤 H A at-mem run .pre (to-res 𝓤 H A at-mem run r v))) (goes-res 𝓤 H A W at-mem run r v) $
+        calls-at ! fm (ResOf 𝓤 H A at-mem run) known-res (to-res 𝓤 H A at-mem run r v) (and-then ! (load ! (from ! (stop !)) (look ! 8 refl)) (no-more !)) (λ v3.
         use1 W (later (some (λ (r3 : Answer). (‵ ftrue ⊛ ‵ (R.the-row .own r3 (v3 ∷ []))) ⊛ raw (ensured 𝓤 H A ident.ended (ident.clauses 𝓤 H A at-mem run) tt (r, tt) tt r3)))) (id⊢ 𝓤 _) $ await ! tt $ pick ! (λ r3.
         split ! $ move ! (1 ∷ []) $ use1 W (raw (fact 𝓤 (r3 ≡ r .answer))) (res-of 𝓤 H A at-mem run r r3) $ heard ! (r3 ≡ r .answer) (λ e-r3. split ! $ drop ! $
         peeks ! R.the-row (Is R.the-row) (shows 𝓤 H A R.the-row) r3 (v3 ∷ []) (λ is-r3.
