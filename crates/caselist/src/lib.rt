@@ -2,7 +2,7 @@
 // its lines; a part is a length of four bytes, the lowest first, and so many bytes.
 ghost use mathlib.Core.Path.{_≡_};
 ghost use Rattle.caselist.specs.Cases.{isWhole, fileAgrees, caseAgrees, caseEnd};
-use pathrun::types::Written;
+use standing::types::Written;
 
 // Whether the case at a place lies within the bytes.
 fn is_whole(s: &[u8], at: usize) -> bool
@@ -28,7 +28,7 @@ fn file_agrees(file: &[u8], lines: &[u8]) -> bool
     let mut out = [0u8; 65536];
     let w = pathrun::whole::lines_of_file(file, &mut out);
     match w {
-        Written::Bytes(k) => check::same(&out[0..k], lines),
+        Written::Count(k) => check::same(&out[0..k], lines),
         Written::Refused(why) => false,
     }
 }
