@@ -159,8 +159,11 @@ module _ (t : Settings) (s : Slot) (b₀ : Book) where
             search = sym (ap (λ (x : size.Tally). x .search) sent);
             probe = λ o. refl;
             probeAt = λ o. refl;
-            next = λ o. absurd (omega (arith, ap (λ (x : size.Tally). x .search .out) sent,
-                proposal-some (z .seek .lost) (z .proven) (s .label .full) n (q .1)));
+            next = λ o. absurd (omega (
+              arith,
+              ap (λ (x : size.Tally). x .search .out) sent,
+              proposal-some (z .seek .lost) (z .proven) (s .label .full) n (q .1),
+            ));
           };
           line =
               line-search t (laneOf p) (b .probes) (outCount z) (h .line) (e₀ .id)

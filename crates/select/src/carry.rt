@@ -6,11 +6,13 @@ use base::limits::MAX_LEN;
 use base::types::MaybeLen;
 use base::types::Refusal;
 
-// The outer header of an established frame, the inner header with the message's type, and the seal's tag.
+// The outer header of an established frame.
 const ESTABLISHED_HEADER_SIZE: u32 = 16;
 
+// The inner header, with the type of the message.
 const INNER_HEADER_SIZE: u32 = 5;
 
+// The tag that seals it.
 const TAG_SIZE: u32 = 16;
 
 // The bytes of a frame around a path message, whose type byte the inner header has too.

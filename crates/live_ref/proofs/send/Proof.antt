@@ -1,5 +1,6 @@
--- `live_ref::send` meets its contract: a walk of its MIR, by hand. The borrow is opened, the struct is copied out whole and passed to the core, what that returns is taken apart by two covered functions,
--- the new struct is stored whole, and the borrow is closed at it. No step looks into the struct, so the walk is the same whatever its fields are.
+-- `live_ref::send` meets its contract: a walk of its MIR, by hand. The borrow is opened, the struct is copied out whole
+-- and passed to the core, what that returns is taken apart by two covered functions, the new struct is stored whole, and
+-- the borrow is closed at it. No step looks into the struct, so the walk is the same whatever its fields are.
 -- Assumes nothing.
 use mathlib.Core.Path.{_≡_, refl, ap, sym, subst, _∙_}
 use Prim.Native.Nat.{ℕ, _<_, _^_}
