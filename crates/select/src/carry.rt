@@ -8,7 +8,9 @@ use base::types::Refusal;
 
 // The outer header of an established frame, the inner header with the message's type, and the seal's tag.
 const ESTABLISHED_HEADER_SIZE: u32 = 16;
+
 const INNER_HEADER_SIZE: u32 = 5;
+
 const TAG_SIZE: u32 = 16;
 
 // The bytes of a frame around a path message, whose type byte the inner header has too.
