@@ -5,10 +5,10 @@
 use crate::damage::damaged;
 use crate::encoder::{encoded, normal, slot_rows};
 use crate::entries::Reply;
-use crate::events::{List, THEMES};
+use crate::events::{List, THEMES, words_of};
 use crate::filed::Filed;
 use crate::handed::{Handed, Sixes};
-use crate::kept::{Guarded, Kept, reply_in, words_of};
+use crate::kept::{Guarded, Kept, reply_in};
 use crate::papers;
 use crate::random::Rng;
 use oracle::proto::path::eventfile::{Next, SETTINGS, record_at};
