@@ -7,7 +7,7 @@ use mathlib.Core.List.{List, [], _∷_, _++_, map}
 use native.Mathlib.Numerals.{add-one}
 use native.Mathlib.Omega.{arith}
 use borrow.Author.Tests.{lt-ltb, le-ltb}
-use lib.Dec.{eqb, ltb}
+use lib.Dec.{eqb}
 use lib.ListN.{length, take, drop, getD, replicate, length-map, length-append, length-replicate}
 use lib.ListN.{length-drop, drop-of-length-le, take-append-drop, List·getD-eq-default}
 use lib.Seq.{drop-cons, drop-drop, length-take-le}
@@ -18,7 +18,6 @@ use Rattle.rules.specs.Rules.{emptySlot}
 use Rattle.rules.specs.declared.types.Slot.{Slot}
 use Rattle.standing.specs.Standing.{standingOf, standingBytes, slotOut}
 use Rattle.rows.specs.View.{slotIn}
-use Rattle.rowpeer.specs.Record.{recordIn}
 use Rattle.replay.specs.Replay.{alike}
 use Rattle.replay.proofs.ReplayLaws.{alike-same, alike-told}
 use Rattle.caselist.specs.Lists.{slotTold, standingsAgree}
@@ -35,7 +34,7 @@ by-used false b l = sym (over-none l)
 
 module _ (a : List (List (List ℕ))) (i : ℕ) (eight : length a ≡ 8) where
   -- what a standing leaves of zeros
-  left : slotOut (recordIn [] a) i (replicate 51 0) ≡ slotTold (getD (map slotIn a) i emptySlot)
+  left : slotOut (map slotIn a) i (replicate 51 0) ≡ slotTold (getD (map slotIn a) i emptySlot)
   unfolding slotOut
   left =
       let s : Slot = getD (map slotIn a) i emptySlot in
@@ -45,7 +44,7 @@ module _ (a : List (List (List ℕ))) (i : ℕ) (eight : length a ≡ 8) where
       rw (lt-ltb 7 i h) (sym (over-none (replicate 51 0)) ∙ (λ j. slotTold (sym e j))))
       (λ h. rw (le-ltb 7 i h) (by-used (s .used) (standingBytes (standingOf (s .path))) (replicate 51 0)))
 
-  pub slot-same : {m : List ℕ} (given : List ℕ) {r : Bool} → m ≡ slotOut (recordIn [] a) i (replicate 51 0)
+  pub slot-same : {m : List ℕ} (given : List ℕ) {r : Bool} → m ≡ slotOut (map slotIn a) i (replicate 51 0)
       → (r ≡ true → m ≡ given) × (m ≡ given → r ≡ true)
       → r ≡ alike (slotTold (getD (map slotIn a) i emptySlot)) given
   slot-same {m} given {r} e t = alike-told m given r t ∙ (λ j. alike ((e ∙ left) j) given)

@@ -20,8 +20,8 @@ abbrev pub wordsIn : List ℕ → List ℕ
 wordsIn b = readAt 0 8 b ∷ readAt 8 8 b ∷ readAt 16 8 b ∷ readAt 24 8 b ∷ []
 
 -- a call has 40 bytes: the four words of an event, and the word that is to answer it
-abbrev pub eventOf : List ℕ → Event
-eventOf b = eventIn (wordsIn b)
+abbrev pub callEvent : List ℕ → Event
+callEvent b = eventIn (wordsIn b)
 
 abbrev pub givenOf : List ℕ → ℕ
 givenOf b = readAt 32 8 b
@@ -32,8 +32,8 @@ callsFrom zero l = []
 callsFrom (suc n) l = take 40 l ∷ callsFrom n (drop 40 l)
 
 -- those that lie whole within the bytes
-abbrev pub callsOf : List ℕ → List (List ℕ)
-callsOf l = callsFrom (length l / 40) l
+abbrev pub wholeCalls : List ℕ → List (List ℕ)
+wholeCalls l = callsFrom (length l / 40) l
 
 -- an answer as one word: the refusal number times 2^32, and the value
 abbrev pub answerWord : Entry → ℕ
@@ -41,7 +41,7 @@ answerWord x = x .number * 2 ^ 32 + x .value
 
 -- from a record on, each call is answered with its word
 abbrev pub answersAgree : Record → List (List ℕ) → Bool
-answersAgree r calls = alike (map answerWord (trace r (map eventOf calls))) (map givenOf calls)
+answersAgree r calls = alike (map answerWord (trace r (map callEvent calls))) (map givenOf calls)
 
 -- the 51 bytes of a slot: the standing of its path over zeros, which stay where the slot is empty; no standing is all
 -- zeros, since its ETX is 1 or more
@@ -56,7 +56,7 @@ standingsAgree slots given = alike (flat slotTold slots) given
 unfoldable pub listAgrees : List ℕ → List ℕ → Bool
 listAgrees told given =
     let new = freshRecord (settingsOf told) in
-    let calls = callsOf (drop 32 told) in
+    let calls = wholeCalls (drop 32 told) in
     cond (leb 32 (length told) && allowed (settingsOf told))
-    (answersAgree new calls && standingsAgree (run new (map eventOf calls) .slots) given)
+    (answersAgree new calls && standingsAgree (run new (map callEvent calls) .slots) given)
     false

@@ -9,7 +9,7 @@ ghost use Rattle.rules.specs.Rules.{emptySlot};
 ghost use Rattle.rules.specs.Step.{step, run};
 ghost use Rattle.rows.specs.View.{slotIn};
 ghost use Rattle.rowpeer.specs.Record.{recordIn, Steps};
-ghost use Rattle.caselist.specs.Lists.{wordsIn, eventOf, callsOf, answersAgree, slotTold};
+ghost use Rattle.caselist.specs.Lists.{wordsIn, callEvent, wholeCalls, answersAgree, slotTold};
 ghost use Rattle.caselist.specs.Lists.{standingsAgree, listAgrees};
 use rows::probes::ROWS;
 use select::types::PATH_MAX_PER_PEER;
@@ -28,7 +28,7 @@ fn words(b: &[u8]) -> [u64; 4]
 
 // One call on a record in words: whether its answer is the word that stands behind its event.
 fn call_agrees(t: &[u64; 4], rec: &mut [[[u64; 4]; ROWS]; PATH_MAX_PER_PEER], b: &[u8]) -> bool
-    ensures { λ r. let e = eventOf (now (b .entry)) in let from = recordIn (now (t .entry)) (now (rec .entry)) in
+    ensures { λ r. let e = callEvent (now (b .entry)) in let from = recordIn (now (t .entry)) (now (rec .entry)) in
         ⌜ (r ≡ answersAgree from (now (b .entry) ∷ []))
         × Steps (now (t .entry)) (now (rec .entry)) (now (rec .exit)) (step from e .reply) e ⌝ }
 {
@@ -41,8 +41,8 @@ fn call_agrees(t: &[u64; 4], rec: &mut [[[u64; 4]; ROWS]; PATH_MAX_PER_PEER], b:
 // The calls that lie whole within the bytes, on a record in words: whether each is answered with its word.
 fn calls_agree(t: &[u64; 4], rec: &mut [[[u64; 4]; ROWS]; PATH_MAX_PER_PEER], s: &[u8]) -> bool
     ensures { λ r. let from = recordIn (now (t .entry)) (now (rec .entry)) in
-        ⌜ (r ≡ answersAgree from (callsOf (now (s .entry))))
-        × (recordIn (now (t .entry)) (now (rec .exit)) ≡ run from (map eventOf (callsOf (now (s .entry))))) ⌝ }
+        ⌜ (r ≡ answersAgree from (wholeCalls (now (s .entry))))
+        × (recordIn (now (t .entry)) (now (rec .exit)) ≡ run from (map callEvent (wholeCalls (now (s .entry))))) ⌝ }
 {
     let n = s.len() / 40;
     let mut same = true;
