@@ -37,7 +37,7 @@ standings-agree-requires : tie.Need-standings-agree-requires
 standings-agree-requires c κs = search needs
 
 returns-2 : tie.Need-returns-2
-returns-2 c = let a = c .before .before .before .before .before .before .before .before .before .before .before .before .before .before .before .args in let told = a .told .now in let y = sym (allowed-by told (c .before .before .before .before .before .before .before .before .before .settings-from .ensures) (c .before .before .before .before .before .before .before .before .new .ensures .0) (c .before .before .before .before .before .before .before .number-of .ensures)) ∙ eq-eqb _ _ (c .before .before .before .before .before .before .if2 .taken) in list-told told (a .given .now) (c .before .before .before .before .before .before .before .before .new .last .0) (c .before .before .before .before .before .before .before .before .new .last .1 .0) (c .before .before .calls-agree .last .1 .0) (c .before .before .before .before .before .before .before .before .before .before .before .before .if1 .left) y (fresh-by told _ _ (c .before .before .before .before .before .before .before .before .before .settings-from .ensures) y (c .before .before .before .before .before .before .before .before .new .ensures .1) (c .before .before .before .before .before .before .before .before .new .ensures .2)) (tail-from told 32) (c .before .before .calls-agree .ensures) (c .standings-agree .ensures)
+returns-2 c = let a = c .before .before .before .before .before .before .before .before .before .before .before .before .before .before .before .args in let told = a .told .now in let y = sym (allowed-by told (c .before .before .before .before .before .before .before .before .before .settings-from .ensures) (c .before .before .before .before .before .before .before .before .new .ensures .0) (c .before .before .before .before .before .before .before .number-of .ensures)) ∙ eq-eqb _ _ (c .before .before .before .before .before .before .if2 .taken) in list-told told (a .given .now) (c .before .before .before .before .before .before .before .before .new .last .0) (c .before .before .before .before .before .before .before .before .new .last .1 .0) (c .before .before .calls-agree .last .1 .0) (c .before .before .before .before .before .before .before .before .before .before .before .before .if1 .left) y (fresh-by told _ _ (c .before .before .before .before .before .before .before .before .before .settings-from .ensures) y (c .before .before .before .before .before .before .before .before .new .ensures .1) (c .before .before .before .before .before .before .before .before .new .ensures .2) .says) (tail-from told 32) (c .before .before .calls-agree .ensures) (c .standings-agree .ensures)
 
 returns-3 : tie.Need-returns-3
 returns-3 c = let a = c .before .before .before .before .before .before .before .before .before .args in let told = a .told .now in list-refused told (a .given .now) (c .before .before .before .before .before .before .if1 .left) (sym (allowed-by told (c .before .before .before .settings-from .ensures) (c .before .before .new .ensures .0) (c .before .number-of .ensures)) ∙ ne-eqb _ _ (c .if2 .left))
