@@ -54,10 +54,10 @@ loop-less : tie.Need-loop-less Inv-loop μ-loop
 loop-less c = search needs
 
 loop-again : tie.Need-loop-again Inv-loop μ-loop
-loop-again c = comparing-next (c .before .before .before .loop .inv) (c .before .before .loop-test .taken) (c .slot-agrees .ensures)
+loop-again c = comparing-next (c .before .before .before .loop .inv) (omega (arith, c .before .before .loop-test .taken)) (c .slot-agrees .ensures)
 
 returns-2 : tie.Need-returns-2 Inv-loop μ-loop
-returns-2 c = comparing-end (c .before .loop .inv) (c .loop-test .left)
+returns-2 c = comparing-end (c .before .loop .inv) (omega (arith, c .loop-test .left))
 
 pub standings-agree-spec : {M : Type 1} → statement M
 standings-agree-spec =
