@@ -62,8 +62,10 @@ struct hess_reply hess_record_new(uint64_t settings[4], uint64_t slots[8][65][4]
 
 /*
  * One event, by its numbers: `at` is its instant, `span` a due instant, a round trip, a timeout or a margin's bits,
- * `id` a draw or an identifier; a field that its kind has not is not read. The settings are read alone. The answer is
- * that of hess_events; a refused event leaves every word as it was.
+ * `id` a draw or an identifier; a field that its kind has not is not read. The settings are read alone, and may be
+ * others with each event: one of 2^62 or more that the kind reads gets 6, the cap with a poll, the gap with an answer
+ * or a judge, window and horizon with a sample. The answer is that of hess_events; a refused event leaves every word as
+ * it was.
  */
 struct hess_reply hess_record_event(const uint64_t settings[4], uint64_t slots[8][65][4], uint8_t kind, uint8_t slot,
                                     uint8_t flags, uint64_t at, uint64_t span, uint32_t id, uint32_t len,
@@ -82,15 +84,16 @@ struct hess_reply hess_record_event(const uint64_t settings[4], uint64_t slots[8
 #define HESS_VALUE(answer) ((uint32_t)(answer))
 
 /*
- * The same as hess_record_event, by the four words of an event; the answer is one word. It is quicker than by numbers:
- * nothing but pointers is handed over.
+ * The same as hess_record_event, 6 for a setting of 2^62 or more that the kind reads among it, by the four words of an
+ * event; the answer is one word. It is quicker than by numbers: nothing but pointers is handed over.
  */
 uint64_t hess_record_words(const uint64_t settings[4], uint64_t slots[8][65][4], const uint64_t event[4]);
 
 /*
  * The same for the event whose record, as in a file, these bytes begin with; bytes behind it are not read. 13: the
  * record is cut short, or there are no bytes; 15: its kind is none of 1 to 15; 14: it has a map bit that its kind has
- * not. On these no bytes count as read, and every word stays; else come the event's own number and value.
+ * not. On these no bytes count as read, and every word stays; else come the event's own number and value, 6 for a
+ * setting of 2^62 or more that the kind reads among them.
  */
 struct hess_taken hess_record_bytes(const uint64_t settings[4], uint64_t slots[8][65][4], const uint8_t *event,
                                     size_t len);

@@ -68,8 +68,9 @@ pub struct Book {
     pub searches: u64,
     pub starts: bool,
     pub carries: Carries,
+    /// When the next search probe may go, where none is out.
+    pub next_try: Option<u64>,
     data: Option<u64>,
-    next_try: Option<u64>,
 }
 
 /// RFC 1982: the difference modulo 2^32 is 1 to 2^31 - 1.

@@ -22,7 +22,7 @@ pub type Op = (&'static str, &'static [(&'static str, Arg)]);
 
 /// The calls, each at its number.
 #[rustfmt::skip]
-pub const OPS: [Op; 49] = [
+pub const OPS: [Op; 51] = [
     ("new", &[]),
     ("take_id", &[("draw", Draw)]),
     ("send", &[("at", At), ("due", Due), ("len", Len), ("draw", Draw)]),
@@ -72,6 +72,8 @@ pub const OPS: [Op; 49] = [
     ("data_at", &[]),
     ("quiet", &[]),
     ("matching", &[("id", Id)]),
+    ("send_ref", &[("at", At), ("due", Due), ("len", Len), ("draw", Draw)]),
+    ("answer_ref", &[("id", Id)]),
 ];
 
 /// A call's number by its name.

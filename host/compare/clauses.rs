@@ -18,24 +18,27 @@ pub enum Clause {
     Once,
     /// No accepted poll left a probe waiting whose due and cap deadline had both passed.
     Polls,
-    /// At most 12 search probes from each start on.
+    /// At most 12 search probes from each start on, every accepted search counted.
     Twelve,
+    /// Each accepted search was one that the rule proposed.
+    Sought,
     /// Each rest, for every L.
     Rests,
     /// Each choose with an allowed margin.
     Choose,
     /// An answer to the search probe has 3, a judgement that loses it 1, others 0.
     Values,
-    /// Proven, lost, out and answered of the record are the book's.
+    /// Proven, lost, out, the next try and answered of the record are the book's.
     Agree,
 }
 
-pub const CLAUSES: [Clause; 9] = [
+pub const CLAUSES: [Clause; 10] = [
     Clause::Sum,
     Clause::Ring,
     Clause::Once,
     Clause::Polls,
     Clause::Twelve,
+    Clause::Sought,
     Clause::Rests,
     Clause::Choose,
     Clause::Values,
@@ -223,7 +226,7 @@ impl<'a> Checker<'a> {
     fn search(&mut self, book: &mut Book, e: &Event, value: u64) -> Turn {
         let size = book.proposal(e.now);
         let why = || format!("search at {} accepted, no size proposed", e.now);
-        self.tried.hold(Clause::Agree, size.is_some(), why);
+        self.tried.hold(Clause::Sought, size.is_some(), why);
         self.tried
             .count("starts by a search probe after a clearing", book.starts);
         book.search(value as u32, e.now, size.unwrap_or(0));
@@ -341,7 +344,7 @@ impl<'a> Checker<'a> {
         }
     }
 
-    /// Proven, answered, lost and out are the book's.
+    /// Proven, answered, lost and out are the book's, and with none out the next try.
     fn search_of(&mut self, book: &Book, i: &Image) {
         let size = |size: u64| (size != 0).then_some(size);
         let seen = (
@@ -349,9 +352,11 @@ impl<'a> Checker<'a> {
             (i[IDS + 2] == 1).then_some(i[IDS + 3] as u32),
             size(i[SEEK + 4]),
             size(i[SEEK + 3]).map(|size| (i[SEEK + 2] as u32, i[SEEK + 1], size)),
+            (i[SEEK] == 1 && i[SEEK + 3] == 0).then_some(i[SEEK + 1]),
         );
         let out = book.out.map(|out| (out.id, out.sent, out.size));
-        let told = (book.proven, book.answered, book.lost, out);
+        let next = book.next_try.filter(|_| out.is_none());
+        let told = (book.proven, book.answered, book.lost, out, next);
         let why = || format!("the record has {seen:?}, the book {told:?}");
         self.tried.hold(Clause::Agree, seen == told, why);
     }

@@ -34,6 +34,15 @@ pub struct List {
     pub events: Vec<Event>,
 }
 
+/// An event as its four words: instant; span; identifier and length; acknowledged length, kind, slot
+/// and flags, with a byte above them that is not read.
+pub fn words_of(e: &Event, spare: u8) -> [u64; 4] {
+    let [id, len, acked] = [e.id, e.len, e.acked].map(u64::from);
+    let [kind, slot, flags, spare] = [e.kind, e.slot, e.flags, spare].map(u64::from);
+    let marks = kind << 32 | slot << 40 | flags << 48 | spare << 56;
+    [e.now, e.span, id | len << 32, acked | marks]
+}
+
 /// How the lists of one theme are made.
 pub struct Theme {
     pub name: &'static str,

@@ -1,6 +1,8 @@
-//! `fixedfiles FOLDER` writes files of events with the Rust's lines under a folder, as they stand in
-//! the repository: examples with their words, the long file of the program `pathlog`, and the list of
-//! small files of `filecases` (a length as u32, a file, a length, its lines, to the end).
+//! `fixedfiles FOLDER` writes events with the Rust's answers under a folder, as they stand in the
+//! repository: examples with their words, the long file of the program `pathlog`, and the cases of
+//! `filecases`: how many files and lists follow, u64 each, then each case behind its length as its two
+//! parts behind theirs, u32 each: a small file and its lines, or a list of events in words and its
+//! standings. What the lists reach goes to standard error.
 
 #[allow(dead_code)]
 mod aims;
@@ -9,14 +11,17 @@ mod calls;
 #[allow(dead_code)]
 mod events;
 mod filed;
+mod listed;
 mod papers;
 mod random;
+mod reach;
 mod wording;
 
 use events::{CHOOSE, THEMES, fitted};
 use filed::{Filed, put_record, turn};
 use oracle::proto::path::eventfile::{fields_of, lines_of};
 use oracle::proto::path::record::Event;
+use reach::Reach;
 use std::io::Result;
 use std::path::Path;
 
@@ -64,21 +69,30 @@ fn main() -> Result<()> {
     let crates = folder.join("crates");
     write(&crates.join("pathlog"), "stdin", &long)?;
     write(&crates.join("pathlog"), "stdout", &lines_of(&long))?;
-    let cases = cases();
-    let mut list = Vec::new();
-    for file in &cases {
-        for bytes in [file, &lines_of(file)] {
-            list.extend((bytes.len() as u32).to_le_bytes());
-            list.extend(bytes);
-        }
-    }
+    let files = cases();
+    let mut reach = Reach::default();
+    let lists = listed::cases(&mut reach);
+    let parts = files.iter().map(|file| [file.clone(), lines_of(file)]);
+    let counts = [files.len(), lists.len()].map(|n| n as u64);
+    let list = listing(counts, parts.chain(lists));
     eprintln!(
-        "{} bytes for pathlog, {} small files in {} bytes",
+        "{} bytes for pathlog, {} small files and the lists in {} bytes",
         long.len(),
-        cases.len(),
+        files.len(),
         list.len()
     );
+    reach.print();
     write(&crates.join("filecases"), "stdin", &list)
+}
+
+/// How many files and lists there are; then each case behind its length, as its two parts behind theirs.
+fn listing(counts: [u64; 2], cases: impl Iterator<Item = [Vec<u8>; 2]>) -> Vec<u8> {
+    let sized = |bytes: Vec<u8>| [&(bytes.len() as u32).to_le_bytes(), &bytes[..]].concat();
+    let mut list = counts.map(u64::to_le_bytes).concat();
+    for case in cases {
+        list.extend(sized(case.map(sized).concat()));
+    }
+    list
 }
 
 fn write(folder: &Path, name: &str, bytes: &[u8]) -> Result<()> {

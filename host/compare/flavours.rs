@@ -197,6 +197,7 @@ impl<'a> Scene<'a> {
     /// The next call, made on the path too.
     fn next(&mut self) -> Call {
         let mut call = self.follow().unwrap_or_else(|| self.any_call());
+        self.through(&mut call);
         for word in &mut call {
             if self.rng.percent(self.flavour.damage) {
                 *word = self.rng.wide();
@@ -205,6 +206,16 @@ impl<'a> Scene<'a> {
         self.last = (call, self.path.call(call));
         self.image = self.path.image();
         call
+    }
+
+    /// A send and an answer go through a reference every second time.
+    fn through(&mut self, call: &mut Call) {
+        for (name, other) in [("send", "send_ref"), ("answer", "answer_ref")] {
+            if call[0] == op(name) && self.rng.percent(50) {
+                call[0] = op(other);
+                return;
+            }
+        }
     }
 
     /// What a caller does after the last call, four times in five.

@@ -61,15 +61,6 @@ unsafe extern "C" {
     fn hess_record_standing(slots: &Slots, slot: u8, out: *mut u8, outlen: usize) -> Reply;
 }
 
-/// An event as its four words: instant; span; identifier and length; acknowledged length, kind, slot and flags, with a
-/// byte above them that is not read.
-pub fn words_of(e: &Event, spare: u8) -> [u64; 4] {
-    let [id, len, acked] = [e.id, e.len, e.acked].map(u64::from);
-    let [kind, slot, flags, spare] = [e.kind, e.slot, e.flags, spare].map(u64::from);
-    let marks = kind << 32 | slot << 40 | flags << 48 | spare << 56;
-    [e.now, e.span, id | len << 32, acked | marks]
-}
-
 /// An answer of one word: the number above, the value below.
 pub fn reply_in(answer: u64) -> Reply {
     Reply {

@@ -21,6 +21,8 @@ mod entries;
 mod events;
 mod filed;
 #[cfg(record)]
+mod handed;
+#[cfg(record)]
 mod kept;
 mod ours;
 mod papers;

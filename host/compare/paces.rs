@@ -22,10 +22,11 @@ mod random;
 
 use entries::Reply;
 use events::{
-    ANSWER, CHOOSE, FOLD, FRESH, HEAR, JUDGE, OPEN, POLL, PROBE, PROVE, SAMPLE, SEARCH, SWEEP, THAW,
+    ANSWER, CHOOSE, FOLD, FRESH, HEAR, JUDGE, OPEN, POLL, PROBE, PROVE, SAMPLE, SEARCH, SWEEP,
+    THAW, words_of,
 };
 use filed::Filed;
-use kept::{Kept, words_of};
+use kept::Kept;
 use oracle::proto::path::record::{Event, Record, SLOTS};
 use ours::Ours;
 use std::hint::black_box;

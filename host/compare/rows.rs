@@ -1,13 +1,14 @@
 //! A record in words beside the Rust's record: one call an event, by numbers, by bytes and by words in turn.
-//! After every event the reply, all standings and every word, which must be the encoder's. Then words
-//! that no record wrote.
+//! After every event the reply, all standings and every word, which must be the encoder's. Then the same with settings
+//! at the limit, which an event tries, and words that no record wrote.
 
 use crate::damage::damaged;
 use crate::encoder::{encoded, normal, slot_rows};
 use crate::entries::Reply;
-use crate::events::{List, THEMES};
+use crate::events::{List, THEMES, words_of};
 use crate::filed::Filed;
-use crate::kept::{Guarded, Kept, reply_in, words_of};
+use crate::handed::{Handed, Sixes};
+use crate::kept::{Guarded, Kept, reply_in};
 use crate::papers;
 use crate::random::Rng;
 use oracle::proto::path::eventfile::{Next, SETTINGS, record_at};
@@ -19,7 +20,9 @@ use std::time::Instant;
 const THREADS: usize = 2;
 const STANDING: usize = 51;
 const SEED: u64 = 900;
-/// One list in so many has damaged bytes beside it, one in so many runs on words that no record wrote.
+/// One list in so many runs again with settings at the limit, one in so many has damaged bytes beside it, one in so
+/// many runs on words that no record wrote.
+const HANDED: usize = 3;
 const DAMAGED: usize = 8;
 const STRANGE: usize = 4;
 /// Copies of such words.
@@ -32,6 +35,8 @@ const LONG: usize = 500;
 pub struct Tally {
     lists: u64,
     events: u64,
+    handed: u64,
+    sixes: Sixes,
     by_bytes: u64,
     by_words: u64,
     refused: u64,
@@ -46,6 +51,8 @@ impl Tally {
     fn add(&mut self, other: &Self) {
         self.lists += other.lists;
         self.events += other.events;
+        self.handed += other.handed;
+        self.sixes.add(&other.sixes);
         self.by_bytes += other.by_bytes;
         self.by_words += other.by_words;
         self.refused += other.refused;
@@ -90,6 +97,7 @@ pub fn compare(events: u64) {
         all
     });
     print(&tally);
+    tally.sixes.print();
     println!(
         "no difference in rows; {:.1} seconds",
         start.elapsed().as_secs_f64()
@@ -98,14 +106,15 @@ pub fn compare(events: u64) {
 
 fn print(t: &Tally) {
     println!(
-        "{} calls with an event on a record in words: {} in {} lists beside the Rust's record ({} by bytes, {} by words, {} refused), \
-         {} that can't be read, {} on words that no record wrote, each on {COPIES} copies ({} refused)",
+        "{} calls with an event on a record in words: {} in {} lists beside the Rust's record ({} by bytes, {} by words, {} refused; \
+         {} with settings at the limit), {} that can't be read, {} on words that no record wrote, each on {COPIES} copies ({} refused)",
         t.all(),
         t.events,
         t.lists,
         t.by_bytes,
         t.by_words,
         t.refused,
+        t.handed,
         t.unread,
         t.strange,
         t.strange_refused
@@ -125,8 +134,14 @@ fn piece(tally: &mut Tally, n: usize) -> Result<(), String> {
         None => made(&mut rng, n),
     };
     let filed = Filed::of(&list, rng.next());
-    Sides::new(&list)?.run(tally, &list, &filed)?;
+    Sides::new(&list)?.run(tally, &list, &filed, None)?;
     tally.lists += 1;
+    if n % HANDED == 0 {
+        let handed = Handed::new(rng.clone(), list.settings);
+        Sides::new(&list)?.run(tally, &list, &filed, Some(handed))?;
+        tally.lists += 1;
+        tally.handed += list.events.len() as u64;
+    }
     if n % DAMAGED == 0 && !filed.events.is_empty() {
         Sides::new(&list)?.file(tally, &damaged(&filed, &mut rng))?;
     }
@@ -183,22 +198,42 @@ impl Sides {
         })
     }
 
-    /// The list's events by numbers, by bytes where a file can hold them, and by words, in turn.
-    fn run(&mut self, tally: &mut Tally, list: &List, filed: &Filed) -> Result<(), String> {
+    /// The list's events by numbers, by bytes where a file can hold them, and by words, in turn; with the settings that
+    /// are handed in, if any are.
+    fn run(
+        &mut self,
+        tally: &mut Tally,
+        list: &List,
+        filed: &Filed,
+        mut handed: Option<Handed>,
+    ) -> Result<(), String> {
         let same = list.events == filed.events;
         for (n, event) in list.events.iter().enumerate() {
-            let reply = match n % 3 {
-                1 if same => self.by_bytes(tally, filed, n)?,
+            if let Some(handed) = &mut handed {
+                self.hand(handed.next());
+            }
+            let way = if n % 3 == 1 && !same { 0 } else { n % 3 };
+            let reply = match way {
+                1 => self.by_bytes(tally, filed, n)?,
                 2 => self.by_words(tally, event),
                 _ => self.ours.kept.event(event),
             };
+            let settings = self.record.settings();
+            tally.sixes.count(reply.number, event, settings, way);
             self.event(tally, event, reply)
-                .map_err(|what| format!("event {}, {event:?}: {what}", n + 1))?;
+                .map_err(|what| format!("event {}, {event:?}, {settings:?}: {what}", n + 1))?;
         }
         match *self.words == encoded(&self.record) && self.ours.whole() {
             true => Ok(()),
             false => Err("at the end: other words".to_string()),
         }
+    }
+
+    /// Other settings for the events from now on, on both sides.
+    fn hand(&mut self, settings: [u64; 4]) {
+        self.record.hand(settings);
+        self.ours.kept.settings = settings;
+        self.words.settings = settings;
     }
 
     /// An event by its words; the byte that is not read may be any.

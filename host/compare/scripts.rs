@@ -1,12 +1,13 @@
 //! Our scripts beside the Rust's: each script and each of its beginnings, answers and image
 //! byte for byte, the bytes past them, and the two refusals that write nothing.
 
-use crate::calls::{Arg, OPS, field, show};
+use crate::calls::{Arg, OPS, field, op, show};
 use crate::entries;
 use crate::flavours::{FLAVOURS, Flavour, script};
 use crate::random::Rng;
 use crate::smaller;
 use oracle::proto::path::script::{CALL, Call, IMAGE, Path, Reply, word};
+use std::collections::BTreeMap;
 
 /// Scripts of a flavour, and the most calls in one.
 const SCRIPTS: usize = 3_000;
@@ -21,14 +22,17 @@ const TRIES: usize = 200_000;
 /// Numbers of calls that are counted apart: those there are, and one for all others.
 const CALLED: usize = OPS.len() + 1;
 
+/// Refusals that the scripts must reach: of a path that is changed through a reference, those of its two calls.
+const MUST: [(&str, u64); 3] = [("send_ref", 5), ("send_ref", 8), ("answer_ref", 9)];
+
 /// What was compared.
 pub struct Scripts {
     pub scripts: u64,
     pub calls: u64,
     pub runs: u64,
     pub refused: u64,
-    /// For each call's number: how often, and how often refused.
-    pub by_call: [(u64, u64); CALLED],
+    /// For each call's number: how often, and how often refused by which number.
+    pub by_call: [(u64, BTreeMap<u64, u64>); CALLED],
     /// Scripts by flavour.
     pub flavours: Vec<(&'static str, u64, u64)>,
 }
@@ -41,11 +45,17 @@ impl Scripts {
             calls: 0,
             runs: 0,
             refused: 0,
-            by_call: [(0, 0); CALLED],
+            by_call: [const { (0, BTreeMap::new()) }; CALLED],
             flavours: Vec::new(),
         };
         for flavour in &FLAVOURS {
             all.flavour(flavour);
+        }
+        for (name, number) in MUST {
+            if !all.by_call[op(name) as usize].1.contains_key(&number) {
+                println!("{name}: refusal {number} is never reached");
+                std::process::exit(1);
+            }
         }
         all
     }
@@ -101,7 +111,9 @@ impl Scripts {
     fn count(&mut self, call: &Call, reply: &Reply) {
         let (calls, refused) = &mut self.by_call[call[0].min(OPS.len() as u64) as usize];
         *calls += 1;
-        *refused += u64::from(reply[0] != 0);
+        if reply[0] != 0 {
+            *refused.entry(reply[0]).or_default() += 1;
+        }
     }
 
     /// Too few lent bytes, and bytes that end inside a call: nothing is written.

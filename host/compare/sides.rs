@@ -45,9 +45,10 @@ fn compare() {
     for (name, seed, calls) in &scripts.flavours {
         println!("  {name} (seed {seed}) {calls}");
     }
-    println!("  by call, refused in brackets:");
+    println!("  by call, in brackets how many were refused by which number:");
     for (n, (calls, refused)) in scripts.by_call.iter().enumerate() {
-        println!("    {} {calls} ({refused})", name_of(n));
+        let said: Vec<_> = refused.iter().map(|(no, n)| format!("{no}: {n}")).collect();
+        println!("    {} {calls} ({})", name_of(n), said.join(", "));
     }
     #[cfg(choice)]
     fields::Fields::run().print();

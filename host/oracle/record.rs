@@ -6,7 +6,6 @@ use super::live::{Answer, Liveness};
 use super::script::{Image, duration, length, whole};
 use super::select::{self, Field, Rival};
 use super::set::{Medium, PATH_MAX_PER_PEER};
-use crate::time::Duration;
 
 /// Slots of a record.
 pub const SLOTS: usize = PATH_MAX_PER_PEER;
@@ -77,13 +76,10 @@ struct Slot {
     preferred: bool,
 }
 
-/// Settings and eight slots.
+/// Settings, cap, gap, window and horizon, and eight slots.
 #[derive(Clone)]
 pub struct Record {
-    cap: Duration,
-    gap: Duration,
-    window: Duration,
-    horizon: Duration,
+    settings: [u64; 4],
     slots: [Option<Slot>; SLOTS],
 }
 
@@ -132,14 +128,19 @@ impl Slot {
 impl Record {
     /// A fresh record by cap, gap, window, horizon; 6 for a setting of 2^62 or more.
     pub fn new(settings: [u64; 4]) -> Result<Self, u64> {
-        let [cap, gap, window, horizon] = settings.map(duration);
+        for setting in settings {
+            duration(setting)?;
+        }
         Ok(Self {
-            cap: cap?,
-            gap: gap?,
-            window: window?,
-            horizon: horizon?,
+            settings,
             slots: [const { None }; SLOTS],
         })
+    }
+
+    /// The settings that are handed in with the events from now on, any numbers: an event tries those
+    /// that its kind reads.
+    pub fn hand(&mut self, settings: [u64; 4]) {
+        self.settings = settings;
     }
 
     /// One event: its number and value. A refused one leaves the record as it was.
@@ -189,7 +190,7 @@ impl Record {
 
     /// What an event does on a path that is open.
     fn work(&mut self, at: usize, e: &Event) -> Answered {
-        let (cap, gap) = (self.cap, self.gap);
+        let [cap, gap, window, horizon] = self.settings;
         let Some(slot) = &mut self.slots[at] else {
             return Err(2);
         };
@@ -203,10 +204,14 @@ impl Record {
             3 => return answer(live, e, gap),
             4 => {
                 let overdue = bit(e.flags, 0);
+                let cap = duration(cap)?;
                 let lapses = core::iter::from_fn(|| live.expire(e.now, overdue, cap));
                 return Ok(lapses.count() as u64);
             }
-            5 => live.sample(e.now, duration(e.span)?, self.window, self.horizon),
+            5 => {
+                let (window, horizon) = (duration(window)?, duration(horizon)?);
+                live.sample(e.now, duration(e.span)?, window, horizon);
+            }
             6 => live.fold(bit(e.flags, 0)),
             7 => {
                 live.prove(whole(e.len.into())?);
@@ -217,7 +222,7 @@ impl Record {
             }
             9 => {
                 let out = live.seeking();
-                live.seek_judge(e.now, duration(e.span)?, gap);
+                live.seek_judge(e.now, duration(e.span)?, duration(gap)?);
                 return Ok((out && !live.seeking()).into());
             }
             10 => {
@@ -262,7 +267,7 @@ impl Record {
 
     /// The settings in nanoseconds: cap, gap, window, horizon.
     pub fn settings(&self) -> [u64; 4] {
-        [self.cap, self.gap, self.window, self.horizon].map(|d| d.0)
+        self.settings
     }
 
     /// What the open of a slot said: its full size, and its flags.
@@ -298,8 +303,8 @@ impl Record {
 }
 
 /// The search probe first, then ring and late list: 3 search, 1 in time, 2 late.
-fn answer(live: &mut Liveness<u64>, e: &Event, gap: Duration) -> Answered {
-    let acked = length(e.acked.into())?;
+fn answer(live: &mut Liveness<u64>, e: &Event, gap: u64) -> Answered {
+    let (acked, gap) = (length(e.acked.into())?, duration(gap)?);
     if let Some(sent) = live.seek_answer(e.id, gap) {
         live.seek_proved(sent, acked, e.now);
         return Ok(3);

@@ -94,11 +94,12 @@ impl Path {
         match op {
             0 => *live = Liveness::new(),
             1 => return one(live.take_id(|| a as u32).into()),
-            2 => {
+            // The Rust's path is always changed through a reference: 49 and 50 are 2 and 3.
+            2 | 49 => {
                 let sent = live.send(a, b, length(c)?, || d as u32);
                 return one(sent.ok_or(8u64)?.into());
             }
-            3 => return self.answer(a as u32),
+            3 | 50 => return self.answer(a as u32),
             4 => {
                 let lapse = live.expire(a, flag(b), duration(c)?);
                 return one(lapse.map_or(0, |counted| if counted { 1 } else { 2 }));

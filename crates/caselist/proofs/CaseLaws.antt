@@ -10,7 +10,16 @@ use lib.Dec.{leb}
 use lib.ListN.{length, take, drop}
 use Rattle.base.proofs.Cases.{on-order}
 use Rattle.octets.specs.Octets.{readAt}
-use Rattle.caselist.specs.Cases.{partText, partEnd, isWhole, fileAgrees, caseAgrees, caseEnd}
+use Rattle.caselist.specs.Cases.{partText, partEnd, isWhole, fileAgrees, partsAgree, caseAgrees, caseEnd}
+use Rattle.caselist.specs.Lists.{listAgrees}
+
+-- two parts, by what they are
+module _ (told given : List ℕ) {listed r : Bool} where
+  pub parts-listed : listed ≡ true → r ≡ listAgrees told given → r ≡ partsAgree listed told given
+  parts-listed q e = e ∙ sym (λ j. cond (q j) (listAgrees told given) (fileAgrees told given))
+
+  pub parts-filed : listed ≡ false → r ≡ fileAgrees told given → r ≡ partsAgree listed told given
+  parts-filed q e = e ∙ sym (λ j. cond (q j) (listAgrees told given) (fileAgrees told given))
 
 -- a sum compared with all bytes, or its last terms with the bytes from p on
 leb-shift : (p m b : ℕ) → p ≤ b → leb (4 + m) (b - p) ≡ leb (p + 4 + m) b
@@ -44,19 +53,19 @@ module _ (s : List ℕ) (at : ℕ) {n m : ℕ} (e : n ≡ readAt at 4 s) (f : m 
     unfolding caseEnd
     end-whole = sums ∙ sym (λ j. cond ((sym i ∙ t) j) (partEnd s (partEnd s at)) (length s))
 
-    -- its parts are the file and the lines
-    pub case-told : {r : Bool}
+    -- its parts are what is told and what is given
+    pub case-told : (listed : Bool) {r : Bool}
         → r
-        ≡ fileAgrees (take (at + 4 + n - (at + 4)) (drop (at + 4) s))
+        ≡ partsAgree listed (take (at + 4 + n - (at + 4)) (drop (at + 4) s))
         (take (at + 4 + n + 4 + m - (at + 4 + n + 4)) (drop (at + 4 + n + 4) s))
-        → r ≡ caseAgrees s at
+        → r ≡ caseAgrees listed s at
     unfolding caseAgrees
-    case-told g =
+    case-told listed g =
         let a : at + 4 + n - (at + 4) ≡ n = omega arith in
         let b : at + 4 + n + 4 + m - (at + 4 + n + 4) ≡ m = omega arith in
-        g ∙ (λ j. fileAgrees (take (a j) (drop (at + 4) s)) (take ((b ∙ f) j) (drop (at + 4 + n + 4) s)))
-        ∙ (λ j. fileAgrees (take (e j) (drop (at + 4) s)) (take (readAt (at + 4 + e j) 4 s) (drop (at + 4 + e j + 4) s)))
-        ∙ sym (λ j. cond ((sym i ∙ t) j) (fileAgrees (partText s at) (partText s (partEnd s at))) false)
+        g ∙ (λ j. partsAgree listed (take (a j) (drop (at + 4) s)) (take ((b ∙ f) j) (drop (at + 4 + n + 4) s)))
+        ∙ (λ j. partsAgree listed (take (e j) (drop (at + 4) s)) (take (readAt (at + 4 + e j) 4 s) (drop (at + 4 + e j + 4) s)))
+        ∙ sym (λ j. cond ((sym i ∙ t) j) (partsAgree listed (partText s at) (partText s (partEnd s at))) false)
 
 -- the file of a whole case ends within the bytes
 pub file-in : (s : List ℕ) (at : ℕ) {n : ℕ} {w : Bool} → n ≡ readAt at 4 s → w ≡ isWhole s at → w ≡ true
@@ -68,7 +77,8 @@ pub end-cut : (s : List ℕ) (at : ℕ) {w : Bool} → w ≡ isWhole s at → w 
 unfolding caseEnd
 end-cut s at i t = sym (λ j. cond ((sym i ∙ t) j) (partEnd s (partEnd s at)) (length s))
 
-pub case-cut : (s : List ℕ) (at : ℕ) {w : Bool} → w ≡ isWhole s at → w ≡ false → false ≡ caseAgrees s at
+pub case-cut : (listed : Bool) (s : List ℕ) (at : ℕ) {w : Bool} → w ≡ isWhole s at → w ≡ false
+    → false ≡ caseAgrees listed s at
 unfolding caseAgrees
-case-cut s at i t =
-    sym (λ j. cond ((sym i ∙ t) j) (fileAgrees (partText s at) (partText s (partEnd s at))) false)
+case-cut listed s at i t =
+    sym (λ j. cond ((sym i ∙ t) j) (partsAgree listed (partText s at) (partText s (partEnd s at))) false)

@@ -14,11 +14,12 @@ use Rattle.base.specs.declared.types.Refusal.the-variants as refusal
 use Rattle.base.proofs.Cases.{on-order}
 use Rattle.octets.specs.Octets.{over}
 use Rattle.octets.proofs.Fill.{over-fits}
+use Rattle.standing.specs.Standing.{writtenValue}
+use Rattle.standing.specs.declared.types.Written.{Written}
+use Rattle.standing.specs.declared.types.Written.the-variants as reply
 use Rattle.pathrun.specs.Lines.{linesOf}
 use Rattle.pathrun.specs.Sessions.{begun, ranOf}
 use Rattle.pathrun.specs.Whole.{fileText, fileReply}
-use Rattle.pathrun.specs.declared.types.Written.{Written}
-use Rattle.pathrun.specs.declared.types.Written.the-variants as reply
 use Rattle.pathrun.proofs.WholeLaws.{Ends, ends, total-in, file-done}
 use Rattle.replay.specs.Replay.{alike}
 use Rattle.replay.proofs.ReplayLaws.{alike-told}
@@ -29,47 +30,43 @@ no-true e = subst T (sym e) tt
 
 -- ---- the room
 
--- how many bytes were written, and whether any were
-abbrev bytesIn : Written → ℕ
-bytesIn (reply.Bytes n) = n
-bytesIn (reply.Refused why) = 0
-
+-- whether bytes were written
 abbrev isBytes : Written → Bool
-isBytes (reply.Bytes n) = true
+isBytes (reply.Count n) = true
 isBytes (reply.Refused why) = false
 
 -- with room the reply is the length of the lines, else a refusal
-reply-room : (l o : List ℕ) → length l / 3 < length o / 84 → fileReply l o ≡ reply.Bytes (length (linesOf l))
+reply-room : (l o : List ℕ) → length l / 3 < length o / 84 → fileReply l o ≡ reply.Count (length (linesOf l))
 reply-room l o h =
-    λ j. cond (lt-ltb (length l / 3) (length o / 84) h j) (reply.Bytes (length (linesOf l))) (reply.Refused refusal.Lent)
+    λ j. cond (lt-ltb (length l / 3) (length o / 84) h j) (reply.Count (length (linesOf l))) (reply.Refused refusal.Lent)
 
 reply-none : (l o : List ℕ) → length o / 84 ≤ length l / 3 → fileReply l o ≡ reply.Refused refusal.Lent
 reply-none l o h =
-    λ j. cond (le-ltb (length l / 3) (length o / 84) h j) (reply.Bytes (length (linesOf l))) (reply.Refused refusal.Lent)
+    λ j. cond (le-ltb (length l / 3) (length o / 84) h j) (reply.Count (length (linesOf l))) (reply.Refused refusal.Lent)
 
 -- where there is room the lines fit
 lines-in : (l o : List ℕ) → length l / 3 < length o / 84 → length (linesOf l) ≤ length o
 lines-in l o h =
     let k = length o / 84 in
     let e : Ends l o begun (ranOf k begun l .run) (over (ranOf k begun l .text) o) = ends l o h refl (refl, refl) in
-    let n = ap bytesIn (file-done e (refl, refl) .0 ∙ reply-room l o h) in
+    let n = ap writtenValue (file-done e (refl, refl) .0 ∙ reply-room l o h) in
     omega (arith, total-in e (refl, refl), n)
 
 -- ---- whether the file agrees
 
 module _ (file lines o : List ℕ) (z : length o ≡ 65536) {w : Written} (e : w ≡ fileReply file o) where
   -- a reply that is a count is the length of the lines
-  counted : {k : ℕ} → w ≡ reply.Bytes k → (length file / 3 < length o / 84) × (k ≡ length (linesOf file))
+  counted : {k : ℕ} → w ≡ reply.Count k → (length file / 3 < length o / 84) × (k ≡ length (linesOf file))
   counted b =
       on-order (length file / 3) (length o / 84)
-      (λ h. (h, ap bytesIn (sym b ∙ e ∙ reply-room file o h)))
+      (λ h. (h, ap writtenValue (sym b ∙ e ∙ reply-room file o h)))
       (λ h. absurd (no-true (sym (ap isBytes (sym b ∙ e ∙ reply-none file o h)))))
 
-  pub count-in : {k : ℕ} → w ≡ reply.Bytes k → k ≤ length o
+  pub count-in : {k : ℕ} → w ≡ reply.Count k → k ≤ length o
   count-in b = omega (arith, lines-in file o (counted b .0), counted b .1)
 
   -- what stands at the front of the lent bytes tells whether the file agrees
-  pub file-told : {k : ℕ} {m : List ℕ} {same : Bool} → w ≡ reply.Bytes k → m ≡ over (fileText file o) o
+  pub file-told : {k : ℕ} {m : List ℕ} {same : Bool} → w ≡ reply.Count k → m ≡ over (fileText file o) o
       → (same ≡ true → take (k - 0) m ≡ lines) × (take (k - 0) m ≡ lines → same ≡ true)
       → same ≡ fileAgrees file lines
   unfolding fileAgrees

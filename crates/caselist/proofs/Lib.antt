@@ -1,3 +1,5 @@
 -- Laws of the cases.
 pub mod CaseLaws
 pub mod FileLaws
+pub mod ListLaws
+pub mod StandLaws

@@ -1,5 +1,5 @@
--- A list of event files with the lines that each is to give. A case is two parts: the bytes of a file, and the bytes of
--- its lines. A part is a length of four little-endian bytes, and so many bytes.
+-- A list of cases. A case is two parts: the bytes of an event file and those of its lines, or a list of events in words
+-- and the standings after it. A part is a length of four little-endian bytes, and so many bytes.
 use Prim.Native.Nat.{ℕ, _+_, _/_}
 use mathlib.Core.List.{List}
 use mathlib.Core.Bool.{Bool, false, cond}
@@ -8,6 +8,7 @@ use lib.ListN.{length, take, drop}
 use Rattle.octets.specs.Octets.{readAt}
 use Rattle.pathrun.specs.Lines.{linesOf}
 use Rattle.replay.specs.Replay.{alike}
+use Rattle.caselist.specs.Lists.{listAgrees}
 
 -- how many bytes the part at a place has behind its length, which these are, and the place after them
 abbrev pub partLength : List ℕ → ℕ → ℕ
@@ -28,9 +29,13 @@ isWhole s at = leb (partEnd s (partEnd s at)) (length s)
 unfoldable pub fileAgrees : List ℕ → List ℕ → Bool
 fileAgrees file lines = cond (ltb (length file / 3) (65536 / 84)) (alike (linesOf file) lines) false
 
--- the case at a place is whole, and its file gives just its lines
-unfoldable pub caseAgrees : List ℕ → ℕ → Bool
-caseAgrees s at = cond (isWhole s at) (fileAgrees (partText s at) (partText s (partEnd s at))) false
+-- two parts agree: a list in words with its standings, or a file with its lines
+abbrev pub partsAgree : Bool → List ℕ → List ℕ → Bool
+partsAgree listed told given = cond listed (listAgrees told given) (fileAgrees told given)
+
+-- the case at a place is whole, and its parts agree
+unfoldable pub caseAgrees : Bool → List ℕ → ℕ → Bool
+caseAgrees listed s at = cond (isWhole s at) (partsAgree listed (partText s at) (partText s (partEnd s at))) false
 
 -- the place after a case; of one that is cut short, the end of the bytes
 unfoldable pub caseEnd : List ℕ → ℕ → ℕ

@@ -1,8 +1,11 @@
-// A list of event files with the lines that each is to give. A case is two parts, the bytes of a file and the bytes of
-// its lines; a part is a length of four bytes, the lowest first, and so many bytes.
+// A list of cases. A case is two parts: the bytes of an event file and those of its lines, or a list of events in words
+// and the standings after it. A part is a length of four bytes, the lowest first, and so many bytes.
 ghost use mathlib.Core.Path.{_≡_};
-ghost use Rattle.caselist.specs.Cases.{isWhole, fileAgrees, caseAgrees, caseEnd};
-use pathrun::types::Written;
+ghost use Rattle.caselist.specs.Cases.{isWhole, fileAgrees, partsAgree, caseAgrees, caseEnd};
+use lists::list_agrees;
+use standing::types::Written;
+
+pub mod lists;
 
 // Whether the case at a place lies within the bytes.
 fn is_whole(s: &[u8], at: usize) -> bool
@@ -28,20 +31,30 @@ fn file_agrees(file: &[u8], lines: &[u8]) -> bool
     let mut out = [0u8; 65536];
     let w = pathrun::whole::lines_of_file(file, &mut out);
     match w {
-        Written::Bytes(k) => check::same(&out[0..k], lines),
+        Written::Count(k) => check::same(&out[0..k], lines),
         Written::Refused(why) => false,
     }
 }
 
-// Whether the case at a place is whole, and its file gives just its lines.
-pub fn case_agrees(s: &[u8], at: usize) -> bool
-    ensures { λ r. ⌜ r ≡ caseAgrees (now (s .entry)) at ⌝ }
+// Whether two parts agree: a list of events in words and its standings, or a file and its lines.
+fn parts_agree(listed: bool, told: &[u8], given: &[u8]) -> bool
+    ensures { λ r. ⌜ r ≡ partsAgree listed (now (told .entry)) (now (given .entry)) ⌝ }
+{
+    if listed {
+        return list_agrees(told, given);
+    }
+    file_agrees(told, given)
+}
+
+// Whether the case at a place is whole, and its parts agree.
+pub fn case_agrees(listed: bool, s: &[u8], at: usize) -> bool
+    ensures { λ r. ⌜ r ≡ caseAgrees listed (now (s .entry)) at ⌝ }
 {
     if is_whole(s, at) {
         let n = octets::get(s, at, 4) as usize;
         let p = at + 4 + n;
         let m = octets::get(s, p, 4) as usize;
-        return file_agrees(&s[at + 4..p], &s[p + 4..p + 4 + m]);
+        return parts_agree(listed, &s[at + 4..p], &s[p + 4..p + 4 + m]);
     }
     false
 }

@@ -5,7 +5,6 @@ use mathlib.Core.Path.{_≡_, refl, sym, ap, subst, _∙_}
 use mathlib.Core.List.{List}
 use Rattle.base.specs.declared.types.Refusal.{Refusal}
 use Rattle.base.specs.declared.types.Refusal.the-variants.{Cut}
-use Rattle.rules.specs.Step.{step}
 use Rattle.rules.specs.declared.types.Event.{Event}
 use Rattle.eventfile.specs.declared.types.Parse.{Parse}
 use Rattle.eventfile.specs.declared.types.Parse.the-variants as parse
@@ -17,7 +16,7 @@ use Rattle.entries.specs.declared.record.Taken.{Taken}
 
 -- an event, its answer as C has it
 pub steps-here : (t : List ℕ) (a b : List (List (List ℕ))) (w : ℕ) {r : Reply} {e f : Event} → e ≡ f → r ≡ splitReply w
-    → Tells t a b w (step (recordIn t a) e) → StepsHere t a b r f
+    → Tells t a b w e → StepsHere t a b r f
 steps-here t a b w {r} {e} {f} q h p =
     subst (λ (x : Event). StepsHere t a b r x) q (h ∙ (λ j. record { number = p .0 j; value = p .1 j }), p .2)
 
@@ -37,10 +36,10 @@ takenWith n v size = record { number = n; value = v; read = size }
 
 -- an event that was read
 pub taken-event : (t : List ℕ) (a b : List (List (List ℕ))) (p : Parse) (e : Event) (size : ℕ) (w : ℕ) {f : Event}
-    → f ≡ e → p ≡ parse.Event e size → Tells t a b w (step (recordIn t a) f)
+    → f ≡ e → p ≡ parse.Event e size → Tells t a b w f
     → (takenWith (w / 2 ^ 32) (w % 2 ^ 32) size ≡ takenBy (recordIn t a) p) × TakenHere t a b p
 taken-event t a b p e size w k h q₀ =
-    let q : Tells t a b w (step (recordIn t a) e) = tells-as t a b w k q₀ in
+    let q : Tells t a b w e = tells-as t a b w k q₀ in
     let same : takenWith (w / 2 ^ 32) (w % 2 ^ 32) size ≡ takenBy (recordIn t a) (parse.Event e size) =
     λ k. takenWith (q .0 k) (q .1 k) size in (
       same ∙ sym (ap (takenBy (recordIn t a)) h),

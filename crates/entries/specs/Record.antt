@@ -52,7 +52,7 @@ splitReply w = record { number = w / 2 ^ 32; value = w % 2 ^ 32 }
 abbrev pub StepsHere : List ℕ → List (List (List ℕ)) → List (List (List ℕ)) → Reply → Event → Type 0
 StepsHere t a b r e =
     let s = step (recordIn t a) e in
-    (r ≡ answerReply (s .reply)) × Steps t a b (s .reply) s
+    (r ≡ answerReply (s .reply)) × Steps t a b (s .reply) e
 
 -- no event could be read
 abbrev pub noneTaken : Refusal → Taken
@@ -68,5 +68,5 @@ takenBy r (parse.Refused why kind) = noneTaken why
 -- and the words after it
 abbrev pub TakenHere : List ℕ → List (List (List ℕ)) → List (List (List ℕ)) → Parse → Type 0
 TakenHere t a b parse.End = b ≡ a
-TakenHere t a b (parse.Event e size) = Steps t a b (step (recordIn t a) e .reply) (step (recordIn t a) e)
+TakenHere t a b (parse.Event e size) = Steps t a b (step (recordIn t a) e .reply) e
 TakenHere t a b (parse.Refused why kind) = b ≡ a

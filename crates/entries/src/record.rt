@@ -2,13 +2,14 @@
 // are read by the same rules; nothing is required of them.
 ghost use mathlib.Core.Path.{_≡_};
 ghost use mathlib.Core.Bool.{cond};
-ghost use mathlib.Core.List.{[]};
+ghost use mathlib.Core.List.{map};
 ghost use lib.ListN.{length};
-ghost use Rattle.rules.specs.Step.{allowed, freshRecord, recordOf, step};
+ghost use Rattle.rules.specs.Step.{allowed, freshRecord, recordOf};
 ghost use Rattle.eventfile.specs.File.{parseOf};
 ghost use Rattle.standing.specs.Standing.{slotWritten, slotOut};
 ghost use Rattle.cells.specs.Cells.{eventIn};
 ghost use Rattle.cells.specs.Code.{settingsRow};
+ghost use Rattle.rows.specs.View.{slotIn};
 ghost use Rattle.rowpeer.specs.Record.{recordIn, recordRows, Tells};
 ghost use Rattle.entries.specs.Events.{writtenReply};
 ghost use Rattle.entries.specs.Record.{keptBytes, settingsWith, answerReply, noneTaken, TakenHere};
@@ -122,7 +123,7 @@ pub extern "C" fn hess_record_words(
     event: &[u64; 4],
 ) -> u64
     ensures { λ r. ⌜ Tells (now (settings .entry)) (now (slots .entry)) (now (slots .exit)) r
-        (step (recordIn (now (settings .entry)) (now (slots .entry))) (eventIn (now (event .entry)))) ⌝ }
+        (eventIn (now (event .entry))) ⌝ }
 {
     rowpeer::record::tell(settings, slots, event)
 }
@@ -174,7 +175,7 @@ pub extern "C" fn hess_record_standing(
     slot: u8,
     out: &mut [u8],
 ) -> Reply
-    ensures { λ r. let held = recordIn [] (now (slots .entry)) in
+    ensures { λ r. let held = map slotIn (now (slots .entry)) in
         ⌜ (r ≡ writtenReply (slotWritten held slot (length (now (out .entry)))))
         × (now (out .exit) ≡ slotOut held slot (now (out .entry))) ⌝ }
 {

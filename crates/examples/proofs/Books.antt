@@ -14,7 +14,9 @@ use Rattle.rules.specs.Demand3.{Every, Carries, FewDraws, bookAfter, Demand3}
 use Rattle.rules.specs.declared.types.Reply.the-variants as reply
 use Rattle.rules.proofs.Premise.{few-draws}
 use Rattle.rules.proofs.Whole.{demand3}
-use Rattle.examples.specs.Lists.{first, eachRefused, eight, ordered, defers, lastData, overdue, thawed, reopened, proposals, acknowledged, twelve, upTo131, judges, tiers, lowest, byScores, equal, examples}
+use Rattle.examples.specs.Lists.{first, eachRefused, eight, ordered, defers, lastData, overdue, thawed, lateHole}
+use Rattle.examples.specs.Lists.{reopened, proposals, acknowledged, twelve, upTo131, sevenEight, judges, tiers}
+use Rattle.examples.specs.Lists.{lowest, byScores, equal, examples}
 use Rattle.base.specs.declared.types.MaybeLen.the-variants as len
 
 abbrev bookOf : Sample → Book
@@ -70,53 +72,9 @@ every-holds [] h = tt
 every-holds (s ∷ l) h = (holds s (h .0), every-holds l (h .1))
 
 short : Every Short examples
-unfolding first eachRefused eight ordered defers lastData overdue thawed reopened proposals acknowledged twelve upTo131 judges tiers lowest byScores equal
-short = (
-  (omega arith, refl),
-  (
-    (omega arith, refl),
-    (
-      (omega arith, refl),
-      (
-        (omega arith, refl),
-        (
-          (omega arith, refl),
-          (
-            (omega arith, refl),
-            (
-              (omega arith, refl),
-              (
-                (omega arith, refl),
-                (
-                  (omega arith, refl),
-                  (
-                    (omega arith, refl),
-                    (
-                      (omega arith, refl),
-                      (
-                        (omega arith, refl),
-                        (
-                          (omega arith, refl),
-                          (
-                            (omega arith, refl),
-                            (
-                              (omega arith, refl),
-                              ((omega arith, refl), ((omega arith, refl), ((omega arith, refl), tt))),
-                            ),
-                          ),
-                        ),
-                      ),
-                    ),
-                  ),
-                ),
-              ),
-            ),
-          ),
-        ),
-      ),
-    ),
-  ),
-)
+unfolding first eachRefused eight ordered defers lastData overdue thawed lateHole reopened proposals
+    acknowledged twelve upTo131 sevenEight judges tiers lowest byScores equal
+short = ((omega arith, refl), ((omega arith, refl), ((omega arith, refl), ((omega arith, refl), ((omega arith, refl), ((omega arith, refl), ((omega arith, refl), ((omega arith, refl), ((omega arith, refl), ((omega arith, refl), ((omega arith, refl), ((omega arith, refl), ((omega arith, refl), ((omega arith, refl), ((omega arith, refl), ((omega arith, refl), ((omega arith, refl), ((omega arith, refl), ((omega arith, refl), ((omega arith, refl), tt))))))))))))))))))))
 
 pub all-hold : Every Holds examples
 all-hold = every-holds examples short

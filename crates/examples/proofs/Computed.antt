@@ -2,7 +2,9 @@
 -- Assumes nothing.
 use mathlib.Core.Path.{refl}
 use Rattle.rules.specs.Answers.{Right, AllRight, answers}
-use Rattle.examples.specs.Lists.{first, eachRefused, eight, ordered, defers, lastData, overdue, thawed, reopened, proposals, acknowledged, twelve, upTo131, judges, tiers, lowest, byScores, equal, examples}
+use Rattle.examples.specs.Lists.{first, eachRefused, eight, ordered, defers, lastData, overdue, thawed, lateHole}
+use Rattle.examples.specs.Lists.{reopened, proposals, acknowledged, twelve, upTo131, sevenEight, judges, tiers}
+use Rattle.examples.specs.Lists.{lowest, byScores, equal, examples}
 
 right-first : Right first
 unfolding answers first
@@ -36,6 +38,10 @@ right-thawed : Right thawed
 unfolding answers thawed
 right-thawed = refl
 
+right-hole : Right lateHole
+unfolding answers lateHole
+right-hole = refl
+
 right-reopened : Right reopened
 unfolding answers reopened
 right-reopened = refl
@@ -55,6 +61,10 @@ right-twelve = refl
 right-upTo131 : Right upTo131
 unfolding answers upTo131
 right-upTo131 = refl
+
+right-figures : Right sevenEight
+unfolding answers sevenEight
+right-figures = refl
 
 right-judges : Right judges
 unfolding answers judges
@@ -77,40 +87,4 @@ unfolding answers equal
 right-equal = refl
 
 pub all-right : AllRight examples
-all-right = (
-  right-first,
-  (
-    right-refused,
-    (
-      right-eight,
-      (
-        right-ordered,
-        (
-          right-defers,
-          (
-            right-lastData,
-            (
-              right-overdue,
-              (
-                right-thawed,
-                (
-                  right-reopened,
-                  (
-                    right-proposals,
-                    (
-                      right-acknowledged,
-                      (
-                        right-twelve,
-                        (right-upTo131, (right-judges, (right-tiers, (right-lowest, (right-scored, (right-equal, tt)))))),
-                      ),
-                    ),
-                  ),
-                ),
-              ),
-            ),
-          ),
-        ),
-      ),
-    ),
-  ),
-)
+all-right = (right-first, (right-refused, (right-eight, (right-ordered, (right-defers, (right-lastData, (right-overdue, (right-thawed, (right-hole, (right-reopened, (right-proposals, (right-acknowledged, (right-twelve, (right-upTo131, (right-figures, (right-judges, (right-tiers, (right-lowest, (right-scored, (right-equal, tt))))))))))))))))))))

@@ -79,13 +79,14 @@ first =
       given = (0, 0) ∷ (0, 7) ∷ (0, 1) ∷ (9, 0) ∷ (0, 0) ∷ [];
     }
 
--- ---- the table of refusals, each number that the record gives once: 1, 2, 3, 4, 5, 6, 7, 9, 10, 15 and, after a
--- close, 11
+-- ---- the table of refusals, each number that the record gives with its smallest example: 11 on a fresh record, 1, 2,
+-- 3, 4, 5, 6, 7, 9, 10, 15 and, after a close, 11 again; 8 is the next list's
 unfoldable pub eachRefused : Sample
 eachRefused =
     record {
       settings = second;
       events =
+          choose marginOne ∷
           event 2 8 0 0 0 0 0 0 ∷
           closing 0 ∷
           opens 0 100 0 ∷
@@ -101,8 +102,8 @@ eachRefused =
           choose marginOne ∷
           [];
       given =
-          (1, 0) ∷ (2, 0) ∷ (0, 0) ∷ (3, 0) ∷ (4, 0) ∷ (5, 0) ∷ (6, 0) ∷ (7, 0) ∷ (9, 0) ∷ (10, 0) ∷ (15, 0) ∷ (0, 0)
-          ∷ (11, 0) ∷ [];
+          (11, 0) ∷ (1, 0) ∷ (2, 0) ∷ (0, 0) ∷ (3, 0) ∷ (4, 0) ∷ (5, 0) ∷ (6, 0) ∷ (7, 0) ∷ (9, 0) ∷ (10, 0) ∷ (15, 0)
+          ∷ (0, 0) ∷ (11, 0) ∷ [];
     }
 
 -- n probes at 0, due at 5
@@ -174,6 +175,19 @@ thawed =
       given = (0, 0) ∷ (0, 7) ∷ (0, 0) ∷ (0, 1) ∷ [];
     }
 
+-- "a hole is not filled first": the late answer to 11 leaves one, and still the next lapse pushes out 10
+unfoldable pub lateHole : Sample
+lateHole =
+    record {
+      settings = second;
+      events =
+          opens 0 100 0 ∷ probe 0 1 10 ∷ probe 0 1 10 ∷ probe 0 1 10 ∷ probe 0 1 10 ∷ poll 1 0 ∷ answer 1 11 0 ∷
+          probe 1 2 10 ∷ poll 2 0 ∷ answer 2 10 0 ∷ answer 2 12 0 ∷ answer 2 13 0 ∷ answer 2 14 0 ∷ [];
+      given =
+          (0, 0) ∷ (0, 10) ∷ (0, 11) ∷ (0, 12) ∷ (0, 13) ∷ (0, 4) ∷ (0, 2) ∷ (0, 14) ∷ (0, 1) ∷ (9, 0) ∷ (0, 2) ∷ (0, 2)
+          ∷ (0, 2) ∷ [];
+    }
+
 -- an identifier is answered in time once since its open, and again after the next
 unfoldable pub reopened : Sample
 reopened =
@@ -239,6 +253,19 @@ upTo131 =
       given = (0, 0) ∷ (0, 0) ∷ (0, 0) ∷ (0, 1) ∷ (0, 1) ∷ (0, 1) ∷ [];
     }
 
+-- figures (7) and (8): with 100 proven, 132 lost is a rest; 133 lost is not, and the next one, of 116, is answered
+unfoldable pub sevenEight : Sample
+sevenEight =
+    record {
+      settings = settings 0 0 0 0;
+      events =
+          opens 0 132 0 ∷ prove 100 ∷ loss 0 ++ (seeks 0 ∷ closing 0 ∷ opens 0 133 0 ∷ prove 100 ∷ loss 0 ++ (
+          seeks 0 ∷ answer 0 2 116 ∷ seeks 0 ∷ []));
+      given =
+          (0, 0) ∷ (0, 0) ∷ (0, 0) ∷ (0, 1) ∷ (0, 1) ∷ (0, 1) ∷ (10, 0) ∷ (0, 0) ∷
+          (0, 0) ∷ (0, 0) ∷ (0, 0) ∷ (0, 1) ∷ (0, 1) ∷ (0, 1) ∷ (0, 2) ∷ (0, 3) ∷ (10, 0) ∷ [];
+    }
+
 -- a judge before the timeout, or with no later answer, says 0
 unfoldable pub judges : Sample
 judges =
@@ -295,6 +322,6 @@ equal =
 
 abbrev pub examples : List Sample
 examples =
-    first ∷ eachRefused ∷ eight ∷ ordered ∷ defers ∷ lastData ∷ overdue ∷ thawed ∷ reopened ∷ proposals ∷ acknowledged
-    ∷ twelve ∷ upTo131 ∷
+    first ∷ eachRefused ∷ eight ∷ ordered ∷ defers ∷ lastData ∷ overdue ∷ thawed ∷ lateHole ∷ reopened ∷ proposals
+    ∷ acknowledged ∷ twelve ∷ upTo131 ∷ sevenEight ∷
     judges ∷ tiers ∷ lowest ∷ byScores ∷ equal ∷ []

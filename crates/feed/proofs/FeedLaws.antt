@@ -21,8 +21,10 @@ use Rattle.eventfile.specs.declared.types.Parse.the-variants as parse
 use Rattle.lines.specs.Text.{lineOf, written}
 use Rattle.lines.proofs.TextLaws.{line-few}
 use Rattle.pathrun.specs.Lines.{numberAfter}
-use Rattle.pathrun.specs.Sessions.{Session, Run, Ran, overOf, callEnd, eventLine}
+use Rattle.pathrun.specs.Sessions.{Session, Ran, overOf, callEnd, eventLine}
 use Rattle.pathrun.specs.Sessions.{ranBy, ranFrom, ranIn, ranOf, lastIn, partOf}
+use Rattle.pathrun.specs.Words.{Runs}
+use Rattle.pathrun.specs.declared.types.Call.{Call}
 use Rattle.pathrun.specs.declared.types.Phase.{Phase}
 use Rattle.pathrun.specs.declared.types.Phase.the-variants as phase
 use Rattle.pathrun.proofs.SessionLaws.{told}
@@ -130,26 +132,20 @@ over-long b l =
     ap (λ (z : List ℕ). length z) (over-fits b l h) ∙ length-append b (drop (length b) l)
     ∙ omega (arith, length-drop (length b) l, h))
 
-module _ (s : Session) (p n : ℕ) (l o : List ℕ) {from to : ℕ} {m : List ℕ} (h : to ≡ min n (length l)) (k : from ≡ min p to) where
-  pub call-is : {r : Run}
-      → (r ≡ ranOf (length o / 84) s (partOf from to l) .run) × (m ≡ over (ranOf (length o / 84) s (partOf from to l) .text) o)
-      → (r ≡ ranOf (length o / 84) s (partOf p n l) .run) × (m ≡ over (ranOf (length o / 84) s (partOf p n l) .text) o)
-  call-is d =
-      let e = part-is p n l h k in (
-        d .0 ∙ (λ j. ranOf (length o / 84) s (e j) .run),
-        d .1 ∙ (λ j. over (ranOf (length o / 84) s (e j) .text) o),
-      )
+module _ (s : Session) (p n : ℕ) (l : List ℕ) {from to : ℕ} {t u : List ℕ} {a b : List (List (List ℕ))} {c : Call}
+    {o m : List ℕ} (h : to ≡ min n (length l)) (k : from ≡ min p to)
+    (d : Runs t u a b c o m (ranOf (length o / 84) s (partOf from to l))) where
+  pub call-is : Runs t u a b c o m (ranOf (length o / 84) s (partOf p n l))
+  call-is =
+      subst (λ (z : List ℕ). Runs t u a b c o m (ranOf (length o / 84) s z)) (part-is p n l h k) d
 
-  pub call-fits : {r : Run}
-      → (r ≡ ranOf (length o / 84) s (partOf from to l) .run) × (m ≡ over (ranOf (length o / 84) s (partOf from to l) .text) o)
-      → (r .wrote ≤ length m) × (r .place ≤ n - p)
-  call-fits {r} d =
+  pub call-fits : (c .wrote ≤ length m) × (c .place ≤ n - p)
+  call-fits =
       let x = ranOf (length o / 84) s (partOf p n l) in
-      let c = call-is {r = r} d in
       let f = ran-fits (length o / 84) s (partOf p n l) in
-      let w : r .wrote ≡ x .run .wrote = λ j. c .0 j .wrote in
-      let q : r .place ≡ x .run .place = λ j. c .0 j .place in
-      let g : length m ≡ length o = ap (λ (z : List ℕ). length z) (c .1) ∙ over-long (x .text) o in
+      let w : c .wrote ≡ x .run .wrote = λ j. call-is .leaves j .wrote in
+      let q : c .place ≡ x .run .place = λ j. call-is .leaves j .place in
+      let g : length m ≡ length o = ap (λ (z : List ℕ). length z) (call-is .writes) ∙ over-long (x .text) o in
       (omega (arith, w, g, f .1), omega (arith, q, f .0, part-few p n l .0))
 
 pub finish-is : (f : Phase) (i p n : ℕ) (l o : List ℕ) {from to r : ℕ} {m : List ℕ} → to ≡ min n (length l)

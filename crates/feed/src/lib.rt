@@ -29,7 +29,8 @@ pub fn call(
     n: usize,
     out: &mut [u8],
 ) -> Call
-    ensures { λ r. ⌜ Runs (now (t .exit)) (now (rec .exit)) r (now (out .entry)) (now (out .exit))
+    ensures { λ r. ⌜ Runs (now (t .entry)) (now (t .exit)) (now (rec .entry)) (now (rec .exit)) r
+        (now (out .entry)) (now (out .exit))
         (ranOf (linesIn (now (out .entry))) (sessionIn (now (t .entry)) (now (rec .entry)) mark)
         (partOf p n (now (buf .entry)))) ⌝ }
     ensures { λ r. ⌜ (r .wrote ≤ length (now (out .exit))) × (r .place ≤ n - p) ⌝ }

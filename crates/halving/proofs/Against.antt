@@ -31,3 +31,7 @@ twelve-full = refl
 few-cleared : moves 28 opened (Prove 27 ∷ Send ∷ Judge ∷ Send ∷ Judge ∷ Send ∷ []) .count ≡ 1
 unfolding proposalOf
 few-cleared = refl
+
+-- with nothing proven nothing is proposed, and yet it is counted
+few-none : moves 27 opened (Send ∷ Send ∷ []) .count ≡ 2
+few-none = refl

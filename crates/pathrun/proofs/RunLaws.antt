@@ -11,7 +11,6 @@ use Rattle.base.specs.Refusals.{refusalNumber}
 use Rattle.base.proofs.Cases.{never}
 use Rattle.octets.specs.Octets.{over}
 use Rattle.octets.proofs.Fill.{Filled, nothing, filled-over}
-use Rattle.rules.specs.Step.{step}
 use Rattle.rules.specs.declared.types.Event.{Event}
 use Rattle.rules.specs.declared.types.Record.{Record}
 use Rattle.rules.specs.declared.types.Reply.{Reply}
@@ -20,7 +19,7 @@ use Rattle.eventfile.specs.declared.types.Parse.{Parse}
 use Rattle.eventfile.specs.declared.types.Parse.the-variants as parse
 use Rattle.lines.specs.Text.{lineOf, written}
 use Rattle.lines.proofs.TextLaws.{line-few}
-use Rattle.rowpeer.specs.Record.{recordIn, Steps}
+use Rattle.rowpeer.specs.Record.{recordIn, AreCoded, Steps}
 use Rattle.pathrun.specs.Sessions.{sessionOf, Ran, callEnd, eventLine, stopLine}
 use Rattle.pathrun.specs.Sessions.{stopPhase, stopped, ranBy, ranFrom, laidAt}
 use Rattle.pathrun.specs.Words.{runIn, Runs, callAt, stoppedAt}
@@ -58,6 +57,7 @@ pub record Going (l₀ l t : List ℕ) (a₀ : List (List (List ℕ))) (n₀ p�
   pub wide : length l₀ < 2 ^ 64
   pub filled : Filled l₀ text out at
   pub is : ranFrom (length l₀ / 84) l [] (recordIn t a₀) n₀ p₀ ≡ ranFrom (most - i) l text (recordIn t a) n p
+  pub coded : AreCoded a₀ → AreCoded a
 
 pub going-start : (l₀ l t : List ℕ) (a : List (List (List ℕ))) (n p : ℕ) → length l₀ < 2 ^ 64
     → Going l₀ l t a n p (length l₀ / 84) l₀ a n p 0 0
@@ -71,6 +71,7 @@ going-start l₀ l t a n p w =
       wide = w;
       filled = nothing l₀;
       is = λ j. ranFrom (sym z j) l [] (recordIn t a) n p;
+      coded = λ h. h;
     }
 
 module _ {l₀ l t : List ℕ} {a₀ : List (List (List ℕ))} {n₀ p₀ most : ℕ} {out : List ℕ} {a : List (List (List ℕ))}
@@ -88,44 +89,50 @@ module _ {l₀ l t : List ℕ} {a₀ : List (List (List ℕ))} {n₀ p₀ most :
   -- the run stops before what is no event
   pub going-stop : {x : Parse} {r : Call} {m : List ℕ} → i < most → x ≡ parseOf l p → isEvent x ≡ false
       → (r ≡ stoppedAt n x p out at) × (m ≡ laidAt at (stopLine x n) out)
-      → Runs t a r l₀ m (ranFrom (length l₀ / 84) l [] (recordIn t a₀) n₀ p₀)
+      → Runs t t a₀ a r l₀ m (ranFrom (length l₀ / 84) l [] (recordIn t a₀) n₀ p₀)
   going-stop {x} {r} {m} h e v d =
       let k : ranFrom (length l₀ / 84) l [] (recordIn t a₀) n₀ p₀ ≡ stopped x (g .text) (recordIn t a) n p =
       opened h e ∙ by-stop x (ranFrom (most - (i + 1)) l) (g .text) (recordIn t a) n p v in
       let f : Filled l₀ (g .text ++ stopLine x n) m (at + written (stopLine x n) (drop at out)) =
-      lay-filled (stopLine x n) (g .filled) (omega (arith, stop-few x n, h, g .small, g .room)) refl (d .1) in (
-        ap (runIn t a) (d .0)
+      lay-filled (stopLine x n) (g .filled) (omega (arith, stop-few x n, h, g .small, g .room)) refl (d .1) in
+      record {
+        leaves = ap (runIn t a) (d .0)
             ∙ (λ j. record {
               session = sessionOf (stopPhase x) (recordIn t a) n;
               place = p;
               wrote = sym (f .long) j;
               full = false;
-            }) ∙ sym (λ j. k j .run),
-        filled-over f ∙ (λ j. over (sym k j .text) l₀),
-      )
+            }) ∙ sym (λ j. k j .run);
+        writes = filled-over f ∙ (λ j. over (sym k j .text) l₀);
+        row = λ q. q;
+        coded = g .coded;
+      }
 
   -- the run stops for want of room
   pub going-full : {r : Call} → most ≤ i → r ≡ callAt n phase.Running p at true
-      → Runs t a r l₀ out (ranFrom (length l₀ / 84) l [] (recordIn t a₀) n₀ p₀)
+      → Runs t t a₀ a r l₀ out (ranFrom (length l₀ / 84) l [] (recordIn t a₀) n₀ p₀)
   unfolding ranFrom
   going-full {r} h q =
       let z : most - i ≡ 0 = omega arith in
       let k : ranFrom (length l₀ / 84) l [] (recordIn t a₀) n₀ p₀
       ≡ callEnd (g .text) (sessionOf phase.Running (recordIn t a) n) p true =
-      g .is ∙ (λ j. ranFrom (z j) l (g .text) (recordIn t a) n p) in (
-        ap (runIn t a) q
+      g .is ∙ (λ j. ranFrom (z j) l (g .text) (recordIn t a) n p) in
+      record {
+        leaves = ap (runIn t a) q
             ∙ (λ j. record {
               session = sessionOf phase.Running (recordIn t a) n;
               place = p;
               wrote = sym (g .filled .long) j;
               full = true;
-            }) ∙ sym (λ j. k j .run),
-        filled-over (g .filled) ∙ (λ j. over (sym k j .text) l₀),
-      )
+            }) ∙ sym (λ j. k j .run);
+        writes = filled-over (g .filled) ∙ (λ j. over (sym k j .text) l₀);
+        row = λ q. q;
+        coded = g .coded;
+      }
 
   -- an event on the words, and its line
   pub going-next : {x : Parse} {e : Event} {next r n′ : ℕ} {b : List (List (List ℕ))} {reply : Reply} {m : List ℕ}
-      → i < most → x ≡ parseOf l p → x ≡ parse.Event e next → Steps t a b reply (step (recordIn t a) e)
+      → i < most → x ≡ parseOf l p → x ≡ parse.Event e next → Steps t a b reply e
       → (r ≡ at + written (eventLine n e reply) (drop at out)) × (m ≡ laidAt at (eventLine n e reply) out)
       → n′ ≡ (n + 1) % 2 ^ 64 → Going l₀ l t a₀ n₀ p₀ most m b n′ next r (i + 1)
   going-next {x} {e} {next} {r} {n′} {b} {reply} {m} h c q s w en =
@@ -144,4 +151,5 @@ module _ {l₀ l t : List ℕ} {a₀ : List (List (List ℕ))} {n₀ p₀ most :
             opened h (sym q ∙ c)
             ∙ (λ j. ranFrom (most - (i + 1)) l (g .text ++ eventLine n e (sym (s .answer) j)) (sym (s .next) j)
             (sym en j) next);
+        coded = λ q. s .coded (g .coded q);
       }

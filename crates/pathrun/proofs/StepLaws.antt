@@ -1,7 +1,7 @@
 -- What a call of a session gives, by its phase.
 -- Assumes nothing.
 use Prim.Native.Nat.{ℕ, _/_, _<_, _≤_}
-use mathlib.Core.Path.{_≡_, refl, sym, ap, _∙_}
+use mathlib.Core.Path.{_≡_, refl, sym, ap, _∙_, subst}
 use mathlib.Core.Bool.{Bool, true, false, cond}
 use mathlib.Core.List.{List, []}
 use native.Mathlib.Omega.{arith}
@@ -13,33 +13,35 @@ use Rattle.octets.specs.Octets.{over}
 use Rattle.rules.specs.Event.{numberOf}
 use Rattle.rules.specs.Step.{allowed, freshRecord, recordOf}
 use Rattle.rules.specs.declared.types.Settings.{Settings}
-use Rattle.rules.specs.declared.types.Record.{Record}
 use Rattle.rules.specs.declared.types.Reply.{Reply}
 use Rattle.rules.specs.declared.types.Reply.the-variants as reply
 use Rattle.eventfile.specs.File.{settingsOf}
 use Rattle.cells.specs.Code.{settingsRow}
-use Rattle.rowpeer.specs.Record.{recordIn, recordRows}
+use Rattle.cells.proofs.RowLaws.{settings-says}
+use Rattle.rowpeer.specs.Record.{recordIn, recordRows, AreCoded}
+use Rattle.rowpeer.proofs.FreshLaws.{fresh-coded}
 use Rattle.lines.specs.Text.{lineOf, written}
 use Rattle.lines.proofs.TextLaws.{line-few, all-written}
-use Rattle.pathrun.specs.Sessions.{Session, Run, sessionOf, overOf, Ran, callEnd, ranFrom, ranIn, ranOf}
-use Rattle.pathrun.specs.Words.{sessionIn, runIn, Runs, callAt, stayedAt}
+use Rattle.pathrun.specs.Sessions.{Session, sessionOf, overOf, Ran, callEnd, ranFrom, ranIn, ranOf}
+use Rattle.pathrun.specs.Words.{sessionIn, runIn, IsRow, Runs, callAt, stayedAt}
 use Rattle.pathrun.specs.declared.types.Phase.{Phase}
 use Rattle.pathrun.specs.declared.types.Phase.the-variants as phase
 use Rattle.pathrun.specs.declared.types.Mark.{Mark}
 use Rattle.pathrun.specs.declared.types.Call.{Call}
 use Rattle.pathrun.proofs.StopLaws.{none-laid, fresh-in}
 
--- a call's answer and its text, where that is what the call gives
-pub step-as : (k : ℕ) (s : Session) (l o : List ℕ) {a : Ran} {r : Run} {m : List ℕ} → ranOf k s l ≡ a → r
-    ≡ a .run → m ≡ over (a .text) o
-    → (r ≡ ranOf k s l .run) × (m ≡ over (ranOf k s l .text) o)
-step-as k s l o e x y = (x ∙ (λ j. sym e j .run), y ∙ (λ j. over (sym e j .text) o))
+-- a call does what x has, where that is what the call gives
+pub step-as : (k : ℕ) (s : Session) (l : List ℕ) {t u : List ℕ} {a b : List (List (List ℕ))} {c : Call}
+    {o m : List ℕ} {x : Ran} → ranOf k s l ≡ x → Runs t u a b c o m x → Runs t u a b c o m (ranOf k s l)
+step-as k s l {t} {u} {a} {b} {c} {o} {m} e d = subst (Runs t u a b c o m) (sym e) d
 
 -- a call that writes nothing
 pub step-stay : (k : ℕ) (t : List ℕ) (a : List (List (List ℕ))) (m : Mark) (l o : List ℕ) (full : Bool) {r : Call}
     → ranOf k (sessionIn t a m) l ≡ callEnd [] (sessionIn t a m) 0 full → r ≡ stayedAt m full
-    → Runs t a r o o (ranOf k (sessionIn t a m) l)
-step-stay k t a m l o full e q = step-as k (sessionIn t a m) l o e (ap (runIn t a) q) (none-laid o .1)
+    → Runs t t a a r o o (ranOf k (sessionIn t a m) l)
+step-stay k t a m l o full e q =
+    step-as k (sessionIn t a m) l e
+    (record { leaves = ap (runIn t a) q; writes = none-laid o .1; row = λ h. h; coded = λ h. h })
 
 -- no room for a line
 pub ran-small : (o : List ℕ) (s : Session) (l : List ℕ) → length o < 84 → ranOf (length o / 84) s l ≡ callEnd [] s 0 true
@@ -79,32 +81,43 @@ module _ (o : List ℕ) (s : Session) (l : List ℕ) (h : 84 ≤ length o) (e : 
       → ranOf (length o / 84) s l ≡ callEnd (lineOf 0 0 6 0) (overOf s) 0 false
   ran-large k y = settings-by (le-ltb (length l) 32 k) y
 
--- the records after settings that are allowed
-pub step-fresh : (o : List ℕ) (s : Session) (l : List ℕ) {f : Record} {r : Run} {m : List ℕ} → 84 ≤ length o
-    → s .phase ≡ phase.Settings
-    → 32 ≤ length l → allowed (settingsOf l) ≡ true → f ≡ freshRecord (settingsOf l)
-    → (r ≡ ranFrom (length o / 84) l [] f 1 32 .run) × (m ≡ over (ranFrom (length o / 84) l [] f 1 32 .text) o)
-    → (r ≡ ranOf (length o / 84) s l .run) × (m ≡ over (ranOf (length o / 84) s l .text) o)
-step-fresh o s l h e k y q d =
-    step-as (length o / 84) s l o (ran-fresh o s l h e k y ∙ (λ j. ranFrom (length o / 84) l [] (sym q j) 1 32))
-    (d .0) (d .1)
+-- words that are the encoder's for a new record with a file's settings
+pub record Fresh (l t : List ℕ) (a : List (List (List ℕ))) : Type 0 where
+  pub says : recordIn t a ≡ freshRecord (settingsOf l)
+  pub row : IsRow t
+  pub coded : AreCoded a
+
+-- the records after settings that are allowed, from any words t₀ and a₀ on
+pub step-fresh : (t₀ : List ℕ) (a₀ : List (List (List ℕ))) (o : List ℕ) (s : Session) (l : List ℕ) {t : List ℕ}
+    {a b : List (List (List ℕ))} {c : Call} {m : List ℕ} → 84 ≤ length o → s .phase ≡ phase.Settings → 32 ≤ length l
+    → allowed (settingsOf l) ≡ true → Fresh l t a
+    → Runs t t a b c o m (ranFrom (length o / 84) l [] (recordIn t a) 1 32)
+    → Runs t₀ t a₀ b c o m (ranOf (length o / 84) s l)
+step-fresh t₀ a₀ o s l h e k y f d =
+    step-as (length o / 84) s l
+    (ran-fresh o s l h e k y ∙ (λ j. ranFrom (length o / 84) l [] (sym (f .says) j) 1 32))
+    (record { leaves = d .leaves; writes = d .writes; row = λ q. f .row; coded = λ q. d .coded (f .coded) })
 
 -- the line of settings that are too large, with the words as they were
 pub step-large : (t : List ℕ) (a : List (List (List ℕ))) (m : Mark) (l o : List ℕ) {t′ : List ℕ}
     {a′ : List (List (List ℕ))} {w : ℕ} {y : List ℕ} → 84 ≤ length o
     → ranOf (length o / 84) (sessionIn t a m) l ≡ callEnd (lineOf 0 0 6 0) (overOf (sessionIn t a m)) 0 false
     → t′ ≡ t → a′ ≡ a → w ≡ written (lineOf 0 0 6 0) o → y ≡ over (lineOf 0 0 6 0) o
-    → Runs t′ a′ (callAt (m .number) phase.Over 0 w false) o y (ranOf (length o / 84) (sessionIn t a m) l)
+    → Runs t t′ a a′ (callAt (m .number) phase.Over 0 w false) o y (ranOf (length o / 84) (sessionIn t a m) l)
 step-large t a m l o {t′} {a′} {w} {y} h e p q x z =
     let n : w ≡ length (lineOf 0 0 6 0) = x ∙ all-written (lineOf 0 0 6 0) o (omega (arith, line-few 0 0 6 0)) in
-    step-as (length o / 84) (sessionIn t a m) l o e
-    (λ j. record {
-      session = sessionOf phase.Over (recordIn (p j) (q j)) (m .number);
-      place = 0;
-      wrote = n j;
-      full = false;
+    step-as (length o / 84) (sessionIn t a m) l e
+    (record {
+      leaves = λ j. record {
+        session = sessionOf phase.Over (recordIn (p j) (q j)) (m .number);
+        place = 0;
+        wrote = n j;
+        full = false;
+      };
+      writes = z;
+      row = subst IsRow (sym p);
+      coded = subst AreCoded (sym q);
     })
-    z
 
 -- the settings that are allowed, by the answer of a record that is made from them
 number-by : (b : Bool) → eqb (numberOf (cond b reply.Nothing (reply.Refused refusal.Duration))) 0 ≡ b
@@ -117,12 +130,20 @@ unfolding recordOf
 allowed-by l {s} {x} {n} p d e =
     (λ j. eqb ((e ∙ (λ i. numberOf (d i))) j) 0) ∙ number-by (allowed s) ∙ ap allowed p
 
--- the words then say a new record, else they are as they were
+-- the words are then the encoder's for a new record, else they are as they were
 module _ (l : List ℕ) {s : Settings} {t : List ℕ} (t₀ : List ℕ) {a : List (List (List ℕ))} (a₀ : List (List (List ℕ)))
     (p : s ≡ settingsOf l) where
   pub fresh-by : allowed (settingsOf l) ≡ true → t ≡ cond (allowed s) (settingsRow s) t₀
-      → a ≡ cond (allowed s) (recordRows (freshRecord s)) a₀ → recordIn t a ≡ freshRecord (settingsOf l)
-  fresh-by y d f = fresh-in s t₀ a₀ (ap allowed p ∙ y) d f ∙ ap freshRecord p
+      → a ≡ cond (allowed s) (recordRows (freshRecord s)) a₀ → Fresh l t a
+  fresh-by y d f =
+      let z : allowed s ≡ true = ap allowed p ∙ y in
+      let r : t ≡ settingsRow s = d ∙ (λ j. cond (z j) (settingsRow s) t₀) in
+      let w : a ≡ recordRows (freshRecord s) = f ∙ (λ j. cond (z j) (recordRows (freshRecord s)) a₀) in
+      record {
+        says = fresh-in s t₀ a₀ z d f ∙ ap freshRecord p;
+        row = subst IsRow (sym r) (ap settingsRow (settings-says s));
+        coded = subst AreCoded (sym w) (fresh-coded []);
+      }
 
   pub kept-by : allowed (settingsOf l) ≡ false → t ≡ cond (allowed s) (settingsRow s) t₀
       → a ≡ cond (allowed s) (recordRows (freshRecord s)) a₀ → (t ≡ t₀) × (a ≡ a₀)

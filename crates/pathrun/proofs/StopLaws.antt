@@ -27,7 +27,7 @@ use Rattle.eventfile.specs.declared.types.Parse.{Parse}
 use Rattle.eventfile.specs.declared.types.Parse.the-variants as parse
 use Rattle.lines.specs.Text.{lineOf, written}
 use Rattle.pathrun.specs.Sessions.{noSettings, sessionOf, begun, stopLine, stopPhase, laidAt, lastBy, lastIn}
-use Rattle.pathrun.specs.Words.{callAt, stoppedAt}
+use Rattle.pathrun.specs.Words.{callAt, stoppedAt, Begins}
 use Rattle.pathrun.specs.declared.types.Phase.{Phase}
 use Rattle.pathrun.specs.declared.types.Phase.the-variants as phase
 use Rattle.pathrun.specs.declared.types.Call.{Call}
@@ -109,9 +109,10 @@ fresh-in s {t} t₀ {a} a₀ y p q =
 pub begin-is : {t : List ℕ} (t₀ : List ℕ) {a : List (List (List ℕ))} (a₀ : List (List (List ℕ)))
     → t ≡ cond (allowed noSettings) (settingsRow noSettings) t₀
     → a ≡ cond (allowed noSettings) (recordRows (freshRecord noSettings)) a₀
-    → sessionOf phase.Settings (recordIn t a) 1 ≡ begun
+    → Begins t a (record { number = 1; phase = phase.Settings })
 unfolding begun
-begin-is t₀ a₀ p q = λ j. sessionOf phase.Settings (fresh-in noSettings t₀ a₀ refl p q j) 1
+begin-is t₀ a₀ p q =
+    record { says = λ j. sessionOf phase.Settings (fresh-in noSettings t₀ a₀ refl p q j) 1; row = p; words = q }
 
 -- the last line
 pub last-settings : (n : ℕ) (l : List ℕ) {f : Phase} → f ≡ phase.Settings → lastIn f n l ≡ lineOf 0 0 13 0

@@ -18,6 +18,7 @@ use Rattle.octets.proofs.Fill.{Filled, filled-length, filled-over, over-fits}
 use Rattle.rules.specs.Step.{step, allowed, freshRecord}
 use Rattle.rules.proofs.Whole.{demand3}
 use Rattle.rules.specs.declared.types.Record.{Record}
+use Rattle.standing.specs.declared.types.Written.the-variants as reply
 use Rattle.eventfile.specs.File.{settingsOf, eventsOf, parseOf}
 use Rattle.eventfile.specs.declared.types.Parse.{Parse}
 use Rattle.eventfile.specs.declared.types.Parse.the-variants as parse
@@ -26,8 +27,10 @@ use Rattle.lines.proofs.TextLaws.{line-few}
 use Rattle.pathrun.specs.Lines.{numberAfter, linesOf}
 use Rattle.pathrun.specs.Sessions.{Session, Run, begun, eventLine, ranOf, lastIn, lastOf}
 use Rattle.eventfile.specs.Claim.{FileDemand}
+use Rattle.pathrun.specs.Words.{sessionIn, runIn, Begins, Runs}
 use Rattle.pathrun.specs.Whole.{hasRoom, fileText, fileReply}
-use Rattle.pathrun.specs.declared.types.Written.the-variants as reply
+use Rattle.pathrun.specs.declared.types.Mark.{Mark}
+use Rattle.pathrun.specs.declared.types.Call.{Call}
 use Rattle.eventfile.proofs.ReadLaws.{parse-stands, Stands}
 use Rattle.pathrun.proofs.WalkLaws.{walkBy, walk, walkAll}
 use Rattle.pathrun.proofs.LayLaws.{lay-tail, lay-filled}
@@ -169,12 +172,12 @@ module _ {l o : List ℕ} {s : Session} {r : Run} {m : List ℕ} (e : Ends l o s
     pub total-in : r .wrote + k ≤ length o
     total-in = all-laid .room
 
-    pub file-done : (reply.Bytes (r .wrote + k) ≡ fileReply l o)
+    pub file-done : (reply.Count (r .wrote + k) ≡ fileReply l o)
         × (putMid (r .wrote) (length m - r .wrote) m m′ ≡ over (fileText l o) o) × FileDemand l
     file-done =
         let c : hasRoom l o ≡ true = lt-ltb (length l / 3) (length o / 84) (e .room) in (
-          (λ j. reply.Bytes (sym (all-laid .long) j))
-              ∙ sym (λ j. cond (c j) (reply.Bytes (length (linesOf l))) (reply.Refused refusal.Lent)),
+          (λ j. reply.Count (sym (all-laid .long) j))
+              ∙ sym (λ j. cond (c j) (reply.Count (length (linesOf l))) (reply.Refused refusal.Lent)),
           filled-over all-laid ∙ sym (λ j. over (cond (c j) (linesOf l) []) o),
           file-demand l,
         )
@@ -184,7 +187,7 @@ pub file-lent : (l o : List ℕ) → length o / 84 ≤ length l / 3
     → (reply.Refused refusal.Lent ≡ fileReply l o) × (o ≡ over (fileText l o) o) × FileDemand l
 file-lent l o h =
     let c : hasRoom l o ≡ false = le-ltb (length l / 3) (length o / 84) h in (
-      sym (λ j. cond (c j) (reply.Bytes (length (linesOf l))) (reply.Refused refusal.Lent)),
+      sym (λ j. cond (c j) (reply.Count (length (linesOf l))) (reply.Refused refusal.Lent)),
       none-laid o .1 ∙ sym (λ j. over (cond (c j) (linesOf l) []) o),
       file-demand l,
     )
@@ -192,3 +195,9 @@ file-lent l o h =
 pub ends : (l o : List ℕ) {s : Session} {r : Run} {m : List ℕ} → length l / 3 < length o / 84 → s ≡ begun
     → (r ≡ ranOf (length o / 84) s l .run) × (m ≡ over (ranOf (length o / 84) s l .text) o) → Ends l o s r m
 ends l o a b d = record { room = a; begins = b; step = d }
+
+-- the same by words
+pub ended : (l o : List ℕ) {t u : List ℕ} {a b : List (List (List ℕ))} {m : Mark} {r : Call} {n : List ℕ}
+    → length l / 3 < length o / 84 → Begins t a m → Runs t u a b r o n (ranOf (length o / 84) (sessionIn t a m) l)
+    → Ends l o (sessionIn t a m) (runIn u b r) n
+ended l o h s d = ends l o h (s .says) (d .leaves, d .writes)

@@ -6,10 +6,13 @@ use mathlib.Core.Bool.{Bool, false}
 use mathlib.Core.List.{List}
 use lib.ListN.{drop}
 use Rattle.octets.specs.Octets.{over}
+use Rattle.rules.specs.Step.{freshRecord}
 use Rattle.eventfile.specs.declared.types.Parse.{Parse}
 use Rattle.lines.specs.Text.{written}
-use Rattle.rowpeer.specs.Record.{recordIn}
-use Rattle.pathrun.specs.Sessions.{Session, Run, Ran, sessionOf, stopLine, stopPhase}
+use Rattle.cells.specs.Cells.{settingsIn}
+use Rattle.cells.specs.Code.{settingsRow}
+use Rattle.rowpeer.specs.Record.{recordIn, recordRows, AreCoded}
+use Rattle.pathrun.specs.Sessions.{Session, noSettings, sessionOf, begun, Run, Ran, stopLine, stopPhase}
 use Rattle.pathrun.specs.declared.types.Phase.{Phase}
 use Rattle.pathrun.specs.declared.types.Mark.{Mark}
 use Rattle.pathrun.specs.declared.types.Call.{Call}
@@ -21,9 +24,23 @@ sessionIn t a m = sessionOf (m .phase) (recordIn t a) (m .number)
 abbrev pub runIn : List ℕ → List (List (List ℕ)) → Call → Run
 runIn t a c = record { session = sessionIn t a (c .mark); place = c .place; wrote = c .wrote; full = c .full }
 
--- a call, with the words t and a after it, and lent bytes o that are m after it: it leaves and writes what x has
-abbrev pub Runs : List ℕ → List (List (List ℕ)) → Call → List ℕ → List ℕ → Ran → Type 0
-Runs t a c o m x = (runIn t a c ≡ x .run) × (m ≡ over (x .text) o)
+-- a session that is begun: whatever the words were, they are the encoder's for a new record, and say it with the mark
+pub record Begins (t : List ℕ) (a : List (List (List ℕ))) (m : Mark) : Type 0 where
+  pub says : sessionIn t a m ≡ begun
+  pub row : t ≡ settingsRow noSettings
+  pub words : a ≡ recordRows (freshRecord noSettings)
+
+-- the four words of the settings are the encoder's; `AreCoded` says it of the slots'
+abbrev pub IsRow : List ℕ → Type 0
+IsRow t = settingsRow (settingsIn t) ≡ t
+
+-- a call on the words t and a, which are u and b after it, and on lent bytes o, which are m after it: it leaves and
+-- writes what x has; and what was the encoder's is the encoder's
+pub record Runs (t u : List ℕ) (a b : List (List (List ℕ))) (c : Call) (o m : List ℕ) (x : Ran) : Type 0 where
+  pub leaves : runIn u b c ≡ x .run
+  pub writes : m ≡ over (x .text) o
+  pub row : IsRow t → IsRow u
+  pub coded : AreCoded a → AreCoded b
 
 -- where a run stands
 abbrev pub callAt : ℕ → Phase → ℕ → ℕ → Bool → Call

@@ -88,7 +88,8 @@ pub fn run(
     place: usize,
     out: &mut [u8],
 ) -> Call
-    ensures { λ r. ⌜ Runs (now (t .entry)) (now (rec .exit)) r (now (out .entry)) (now (out .exit))
+    ensures { λ r. ⌜ Runs (now (t .entry)) (now (t .entry)) (now (rec .entry)) (now (rec .exit)) r
+        (now (out .entry)) (now (out .exit))
         (ranFrom (linesIn (now (out .entry))) (now (s .entry)) []
         (recordIn (now (t .entry)) (now (rec .entry))) number place) ⌝ }
 {

@@ -2,8 +2,8 @@
 ghost use mathlib.Core.Path.{_≡_};
 ghost use Rattle.lines.specs.Text.{written};
 ghost use Rattle.octets.specs.Octets.{over};
-ghost use Rattle.pathrun.specs.Sessions.{begun, linesIn, ranOf, lastIn};
-ghost use Rattle.pathrun.specs.Words.{sessionIn, stayedAt, Runs};
+ghost use Rattle.pathrun.specs.Sessions.{linesIn, ranOf, lastIn};
+ghost use Rattle.pathrun.specs.Words.{sessionIn, stayedAt, Begins, Runs};
 use crate::run::run;
 use crate::types::*;
 use base::types::Refusal;
@@ -15,7 +15,7 @@ use turns::reply::number_of;
 
 // A session before its first byte: the words become those of a new record, whatever they were.
 pub fn begin(t: &mut [u64; 4], rec: &mut [[[u64; 4]; ROWS]; PATH_MAX_PER_PEER]) -> Mark
-    ensures { λ r. ⌜ sessionIn (now (t .exit)) (now (rec .exit)) r ≡ begun ⌝ }
+    ensures { λ r. ⌜ Begins (now (t .exit)) (now (rec .exit)) r ⌝ }
 {
     let settings = Settings {
         cap: 0,
@@ -51,7 +51,8 @@ pub fn step(
     s: &[u8],
     out: &mut [u8],
 ) -> Call
-    ensures { λ r. ⌜ Runs (now (t .exit)) (now (rec .exit)) r (now (out .entry)) (now (out .exit))
+    ensures { λ r. ⌜ Runs (now (t .entry)) (now (t .exit)) (now (rec .entry)) (now (rec .exit)) r
+        (now (out .entry)) (now (out .exit))
         (ranOf (linesIn (now (out .entry))) (sessionIn (now (t .entry)) (now (rec .entry)) mark) (now (s .entry))) ⌝ }
 {
     if out.len() < 84 {

@@ -1,5 +1,4 @@
 // What a session is, and what its calls answer.
-use base::types::Refusal;
 
 // What a session awaits: the settings, a record of the file, or nothing more.
 pub enum Phase {
@@ -22,10 +21,4 @@ pub struct Call {
     pub place: usize,
     pub wrote: usize,
     pub full: bool,
-}
-
-// How many bytes were written, or a refusal, with which nothing was.
-pub enum Written {
-    Bytes(usize),
-    Refused(Refusal),
 }

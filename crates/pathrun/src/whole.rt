@@ -6,10 +6,10 @@ ghost use Rattle.pathrun.specs.Whole.{fileText, fileReply};
 use crate::session::begin;
 use crate::session::finish;
 use crate::session::step;
-use crate::types::*;
 use base::types::Refusal;
 use rows::probes::ROWS;
 use select::types::PATH_MAX_PER_PEER;
+use standing::types::Written;
 
 // Writes the lines of a file to the front of `out`, or nothing where `out` has no room for a line of 84 bytes for each
 // three bytes of the file and one more; demand 3 holds of the file's events and these answers.
@@ -31,5 +31,5 @@ pub fn lines_of_file(s: &[u8], out: &mut [u8]) -> Written
     let p = r.place;
     let w = r.wrote;
     let k = finish(left, &s[p..], &mut out[w..]);
-    Written::Bytes(w + k)
+    Written::Count(w + k)
 }

@@ -21,7 +21,7 @@ answers : (t : List ℕ) (c : List Exchange) (a d : List (List (List ℕ))) → 
     → entriesIn c ≡ trace (recordIn t a) (eventsIn c)
 answers t [] a d h = refl
 answers t (x ∷ c) a d h =
-    let s : Steps t a (h .0) (x .reply) (step (recordIn t a) (x .event)) = h .1 in
+    let s : Steps t a (h .0) (x .reply) (x .event) = h .1 in
     (λ k. record { event = x .event; number = numberOf (s .answer k); value = valueOf (s .answer k) } ∷ entriesIn c)
     ∙ ap (λ (z : List Entry). record {
       event = x .event;
@@ -35,14 +35,14 @@ says : (t : List ℕ) (c : List Exchange) (a d : List (List (List ℕ))) → Cal
     → recordIn t d ≡ run (recordIn t a) (eventsIn c)
 says t [] a d h = ap (recordIn t) (sym h)
 says t (x ∷ c) a d h =
-    let s : Steps t a (h .0) (x .reply) (step (recordIn t a) (x .event)) = h .1 in
+    let s : Steps t a (h .0) (x .reply) (x .event) = h .1 in
     says t c (h .0) d (h .2) ∙ ap (λ (r : Record). run r (eventsIn c)) (s .next)
 
 -- and the words are the encoder's if the first were
 coded : (t : List ℕ) (c : List Exchange) (a d : List (List (List ℕ))) → Calls t a c d → AreCoded a → AreCoded d
 coded t [] a d h e = subst AreCoded h e
 coded t (x ∷ c) a d h e =
-    let s : Steps t a (h .0) (x .reply) (step (recordIn t a) (x .event)) = h .1 in
+    let s : Steps t a (h .0) (x .reply) (x .event) = h .1 in
     coded t c (h .0) d (h .2) (s .coded e)
 
 pub calls-hold : CallsHold

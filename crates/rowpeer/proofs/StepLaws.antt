@@ -8,8 +8,8 @@ use native.Mathlib.Omega.{arith}
 use borrow.Author.Tests.{lt-ltb, eqb-true}
 use lib.Dec.{eqb, ltb}
 use lib.ListN.{length, set, getD, length-map, List·getD-map}
-use lib.Seq.{set-getD}
-use Rattle.base.proofs.Cases.{on-flag}
+use lib.Seq.{set-getD, getD-set-other}
+use Rattle.base.proofs.Cases.{on-flag, never}
 use Rattle.rules.specs.Event.{numberOf, valueOf}
 use Rattle.rules.specs.Rules.{emptySlot, refusals, onSlot}
 use Rattle.rules.specs.Step.{put, step}
@@ -32,19 +32,21 @@ use Rattle.rows.proofs.BlockLaws.{map-set}
 use Rattle.rowpeer.specs.Record.{recordIn, beyondOf, Steps, Tells}
 
 -- nothing stored
-still : (t : List ℕ) (a : List (List (List ℕ))) {x : Reply} {s : Stepped} (y : Reply) → x ≡ y
-    → s ≡ record { next = recordIn t a; reply = y } → Steps t a a x s
-still t a {x} {s} y q e =
+still : (t : List ℕ) (a : List (List (List ℕ))) (e : Event) {x : Reply} (y : Reply) → x ≡ y
+    → step (recordIn t a) e ≡ record { next = recordIn t a; reply = y } → Steps t a a x e
+still t a e {x} y q f =
     record {
-      answer = q ∙ sym (ap (λ (z : Stepped). z .reply) e);
-      next = sym (ap (λ (z : Stepped). z .next) e);
+      answer = q ∙ sym (ap (λ (z : Stepped). z .reply) f);
+      next = sym (ap (λ (z : Stepped). z .next) f);
+      others = λ j n. refl;
+      chosen = λ c. refl;
       coded = λ c. c;
       left = λ g. refl;
     }
 
 -- the answer to an event whose slot is none
 beyond : (t : Settings) (e : Event) → 7 < e .slot
-    → beyondOf (verdictOf (refusals false e)) ≡ onSlot t emptySlot e .reply
+    → beyondOf (verdictOf (refusals t false e)) ≡ onSlot t emptySlot e .reply
 unfolding onSlot
 beyond t e h =
     let k : ltb 7 (e .slot) ≡ true = lt-ltb 7 (e .slot) h in
@@ -52,18 +54,18 @@ beyond t e h =
 
 module _ (t : List ℕ) (a : List (List (List ℕ))) (e : Event) where
   pub steps-choose : {x : Reply} → e .kind ≡ 15 → x ≡ chosenOf (map slotIn a) (e .span)
-      → Steps t a a x (step (recordIn t a) e)
-  steps-choose k q = still t a (chosenOf (map slotIn a) (e .span)) q (step-choose (recordIn t a) e k)
+      → Steps t a a x e
+  steps-choose k q = still t a e (chosenOf (map slotIn a) (e .span)) q (step-choose (recordIn t a) e k)
 
   pub steps-out : {x : Reply} → length a ≡ 8 → eqb (e .kind) 15 ≡ false → 7 < e .slot
-      → x ≡ beyondOf (verdictOf (refusals false e)) → Steps t a a x (step (recordIn t a) e)
+      → x ≡ beyondOf (verdictOf (refusals (settingsIn t) false e)) → Steps t a a x e
   steps-out {x} n k h q =
       let o : length (map slotIn a) ≤ e .slot = omega (arith, length-map a slotIn) in
-      still t a (onSlot (settingsIn t) emptySlot e .reply) (q ∙ beyond (settingsIn t) e h) (step-out (recordIn t a) e k o)
+      still t a e (onSlot (settingsIn t) emptySlot e .reply) (q ∙ beyond (settingsIn t) e h) (step-out (recordIn t a) e k o)
 
   pub steps-in : {q : List (List ℕ)} {x : Reply} → length a ≡ 8 → eqb (e .kind) 15 ≡ false → e .slot ≤ 7
       → Turns (getD a (e .slot) []) q x (onSlot (settingsIn t) (slotIn (getD a (e .slot) [])) e)
-      → Steps t a (set a (e .slot) q) x (step (recordIn t a) e)
+      → Steps t a (set a (e .slot) q) x e
   steps-in {q} {x} n k h u =
       let i : ℕ = e .slot in
       let o : i < length a = omega (arith, n) in
@@ -78,6 +80,8 @@ module _ (t : List ℕ) (a : List (List (List ℕ))) (e : Event) where
             (λ j. record { settings = settingsIn t; slots = map-set slotIn a i q j })
             ∙ (λ j. record { settings = settingsIn t; slots = set (map slotIn a) i (u .slot j) })
             ∙ sym (ap (λ (z : Stepped). z .next) f);
+        others = λ j m. getD-set-other a i j q [] m;
+        chosen = λ c. never c k;
         coded =
             λ c.
             let w : slotRows (slotIn (getD a i [])) ≡ getD a i [] =
@@ -92,7 +96,7 @@ module _ (t : List ℕ) (a : List (List (List ℕ))) (e : Event) where
 
 -- ---- an answer in one word
 
-module _ {t : List ℕ} {a b : List (List (List ℕ))} (e : Event) {x : Reply} (h : Steps t a b x (step (recordIn t a) e)) where
+module _ {t : List ℕ} {a b : List (List (List ℕ))} (e : Event) {x : Reply} (h : Steps t a b x e) where
   -- the value of a choice is a slot's number; any other answer's is below 2^32 by its type
   value-small : length a ≡ 8 → (isChosen x ≡ false → valueOf x < 2 ^ 32) → valueOf x < 2 ^ 32
   unfolding step
@@ -108,16 +112,16 @@ module _ {t : List ℕ} {a b : List (List (List ℕ))} (e : Event) {x : Reply} (
       small (ap isChosen (h .answer ∙ q) ∙ slot-unchosen (settingsIn t) s e))
 
   pub tells : {w : ℕ} → length a ≡ 8 → (w ≡ wordOf x) × (isChosen x ≡ false → valueOf x < 2 ^ 32)
-      → Tells t a b w (step (recordIn t a) e)
+      → Tells t a b w e
   tells {w} n g =
       let v : valueOf x < 2 ^ 32 = value-small n (g .1) in
       let word : w ≡ wordOf x = g .0 in (
         (let d : w / 2 ^ 32 ≡ numberOf x = omega arith in d ∙ ap numberOf (h .answer)),
         (let d : w % 2 ^ 32 ≡ valueOf x = omega arith in d ∙ ap valueOf (h .answer)),
-        subst (λ (y : Reply). Steps t a b y (step (recordIn t a) e)) (h .answer) h,
+        subst (λ (y : Reply). Steps t a b y e) (h .answer) h,
       )
 
 -- the same of an event by another name
 pub tells-as : (t : List ℕ) (a b : List (List (List ℕ))) (w : ℕ) {e f : Event} → e ≡ f
-    → Tells t a b w (step (recordIn t a) e) → Tells t a b w (step (recordIn t a) f)
-tells-as t a b w q h = subst (λ (e : Event). Tells t a b w (step (recordIn t a) e)) q h
+    → Tells t a b w e → Tells t a b w f
+tells-as t a b w q h = subst (λ (e : Event). Tells t a b w e) q h

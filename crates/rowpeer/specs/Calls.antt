@@ -4,7 +4,7 @@ use mathlib.Core.Path.{_≡_}
 use mathlib.Core.Bool.{true}
 use mathlib.Core.List.{List, [], _∷_, map}
 use Rattle.rules.specs.Event.{numberOf, valueOf}
-use Rattle.rules.specs.Step.{Entry, allowed, freshRecord, step, run, trace}
+use Rattle.rules.specs.Step.{Entry, allowed, freshRecord, run, trace}
 use Rattle.rules.specs.Demand3.{FewDraws, Demand3}
 use Rattle.rules.specs.declared.types.Event.{Event}
 use Rattle.rules.specs.declared.types.Reply.{Reply}
@@ -21,7 +21,7 @@ pub record Exchange : Type 0 where
 abbrev pub Calls : List ℕ → List (List (List ℕ)) → List Exchange → List (List (List ℕ)) → Type 0
 Calls t a [] d = a ≡ d
 Calls t a (x ∷ c) d =
-    (b : List (List (List ℕ))) × Steps t a b (x .reply) (step (recordIn t a) (x .event)) × Calls t b c d
+    (b : List (List (List ℕ))) × Steps t a b (x .reply) (x .event) × Calls t b c d
 
 -- the events of the calls, and what was answered, as the rules' trace has it
 abbrev pub eventsIn : List Exchange → List Event

@@ -3,13 +3,15 @@
 use Prim.Native.Nat.{ℕ, _^_, _/_, _%_}
 use mathlib.Core.Path.{_≡_}
 use mathlib.Core.Bool.{true}
-use mathlib.Core.List.{List, map}
+use mathlib.Core.List.{List, [], map}
+use lib.ListN.{getD}
 use Rattle.base.specs.declared.types.Refusal.the-variants as refusal
-use Rattle.rules.specs.Event.{numberOf, valueOf}
+use Rattle.rules.specs.Event.{Choose, is, numberOf, valueOf}
+use Rattle.rules.specs.Step.{step}
+use Rattle.rules.specs.declared.types.Event.{Event}
 use Rattle.rules.specs.declared.types.Record.{Record}
 use Rattle.rules.specs.declared.types.Reply.{Reply}
 use Rattle.rules.specs.declared.types.Reply.the-variants as reply
-use Rattle.rules.specs.declared.types.Stepped.{Stepped}
 use Rattle.turns.specs.declared.refuse.Verdict.{Verdict}
 use Rattle.turns.specs.declared.refuse.Verdict.the-variants as verdict
 use Rattle.cells.specs.Cells.{settingsIn}
@@ -29,19 +31,22 @@ recordRows r = map slotRows (r .slots)
 abbrev pub AreCoded : List (List (List ℕ)) → Type 0
 AreCoded a = map slotRows (map slotIn a) ≡ a
 
--- an event: its answer x and the record after it are those of s; what was the encoder's is the encoder's; and a refusal
--- leaves every word
-pub record Steps (t : List ℕ) (a b : List (List (List ℕ))) (x : Reply) (s : Stepped) : Type 0 where
-  pub answer : x ≡ s .reply
-  pub next : recordIn t b ≡ s .next
+-- an event: its answer x and the record after it are those of the rules' step; whatever the words, those of every other
+-- slot are left, and so are all by a choose; what was the encoder's is the encoder's; and a refusal leaves every word
+pub record Steps (t : List ℕ) (a b : List (List (List ℕ))) (x : Reply) (e : Event) : Type 0 where
+  pub answer : x ≡ step (recordIn t a) e .reply
+  pub next : recordIn t b ≡ step (recordIn t a) e .next
+  pub others : (j : ℕ) → (j ≡ e .slot → ⊥) → getD b j [] ≡ getD a j []
+  pub chosen : is Choose e ≡ true → b ≡ a
   pub coded : AreCoded a → AreCoded b
   pub left : isRefused x ≡ true → b ≡ a
 
--- an event whose answer is one word: its upper half is the refusal number of s, its lower half the value; and the words
--- of the slots are as `Steps` has them
-abbrev pub Tells : List ℕ → List (List (List ℕ)) → List (List (List ℕ)) → ℕ → Stepped → Type 0
-Tells t a b w s =
-    (w / 2 ^ 32 ≡ numberOf (s .reply)) × (w % 2 ^ 32 ≡ valueOf (s .reply)) × Steps t a b (s .reply) s
+-- an event whose answer is one word: its upper half is the refusal number, its lower half the value; and the words of
+-- the slots are as `Steps` has them
+abbrev pub Tells : List ℕ → List (List (List ℕ)) → List (List (List ℕ)) → ℕ → Event → Type 0
+Tells t a b w e =
+    let x = step (recordIn t a) e .reply in
+    (w / 2 ^ 32 ≡ numberOf x) × (w % 2 ^ 32 ≡ valueOf x) × Steps t a b x e
 
 -- the answer to an event whose slot is none, by the first refusal: 15, else 1
 abbrev pub beyondOf : Verdict → Reply

@@ -3,12 +3,12 @@ ghost use mathlib.Core.Path.{_≡_};
 ghost use mathlib.Core.Bool.{cond, false};
 ghost use lib.ListN.{replicate};
 ghost use Rattle.rules.specs.Rules.{emptySlot, refusals};
-ghost use Rattle.rules.specs.Step.{allowed, freshRecord, recordOf, step};
+ghost use Rattle.rules.specs.Step.{allowed, freshRecord, recordOf};
 ghost use Rattle.turns.specs.Turns.{verdictOf};
-ghost use Rattle.cells.specs.Cells.{eventIn};
+ghost use Rattle.cells.specs.Cells.{eventIn, settingsIn};
 ghost use Rattle.cells.specs.Code.{settingsRow};
 ghost use Rattle.rows.specs.Encode.{slotRows};
-ghost use Rattle.rowpeer.specs.Record.{recordIn, recordRows, beyondOf, Steps, Tells};
+ghost use Rattle.rowpeer.specs.Record.{recordRows, beyondOf, Steps, Tells};
 use crate::choice::chosen;
 use crate::choice::slots;
 use base::types::Refusal;
@@ -53,10 +53,11 @@ pub fn new(t: &mut [u64; 4], rec: &mut [[[u64; 4]; ROWS]; PATH_MAX_PER_PEER], s:
 }
 
 // The refusal of an event whose slot is none.
-fn beyond(e: Event) -> Reply
-    ensures { λ r. ⌜ r ≡ beyondOf (verdictOf (refusals false e)) ⌝ }
+fn beyond(t: &[u64; 4], e: Event) -> Reply
+    ensures { λ r. ⌜ r ≡ beyondOf (verdictOf (refusals (settingsIn (now (t .entry))) false e)) ⌝ }
 {
-    let v = first_refusal(false, e);
+    let s = cells::marks::settings_in(*t);
+    let v = first_refusal(s, false, e);
     match v {
         Verdict::Refused(why) => Reply::Refused(why),
         Verdict::Pass => Reply::Refused(Refusal::Slot),
@@ -65,15 +66,14 @@ fn beyond(e: Event) -> Reply
 
 // One event: choose, or the work on its slot.
 pub fn event(t: &[u64; 4], rec: &mut [[[u64; 4]; ROWS]; PATH_MAX_PER_PEER], e: Event) -> Reply
-    ensures { λ r. ⌜ Steps (now (t .entry)) (now (rec .entry)) (now (rec .exit)) r
-        (step (recordIn (now (t .entry)) (now (rec .entry))) e) ⌝ }
+    ensures { λ r. ⌜ Steps (now (t .entry)) (now (rec .entry)) (now (rec .exit)) r e ⌝ }
 {
     slots(rec);
     if e.kind == 15 {
         return chosen(rec, e.span);
     }
     if 7 < e.slot {
-        return beyond(e);
+        return beyond(t, e);
     }
     let i = e.slot as usize;
     rowturns::on_rows(t, &mut rec[i], e)
@@ -83,7 +83,7 @@ pub fn event(t: &[u64; 4], rec: &mut [[[u64; 4]; ROWS]; PATH_MAX_PER_PEER], e: E
 // over field by field.
 pub fn tell(t: &[u64; 4], rec: &mut [[[u64; 4]; ROWS]; PATH_MAX_PER_PEER], w: &[u64; 4]) -> u64
     ensures { λ r. ⌜ Tells (now (t .entry)) (now (rec .entry)) (now (rec .exit)) r
-        (step (recordIn (now (t .entry)) (now (rec .entry))) (eventIn (now (w .entry)))) ⌝ }
+        (eventIn (now (w .entry))) ⌝ }
 {
     slots(rec);
     let e = cells::events::event_in(*w);

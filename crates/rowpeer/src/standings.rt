@@ -1,20 +1,19 @@
 // The standing of a slot's path in rows, written into lent bytes.
 ghost use mathlib.Core.Path.{_≡_};
-ghost use mathlib.Core.List.{[]};
+ghost use mathlib.Core.List.{map};
 ghost use lib.ListN.{length};
 ghost use Rattle.standing.specs.Standing.{slotWritten, slotOut};
-ghost use Rattle.rowpeer.specs.Record.{recordIn};
+ghost use Rattle.rows.specs.View.{slotIn};
 use crate::choice::slots;
 use base::types::Refusal;
 use rows::probes::ROWS;
 use select::types::PATH_MAX_PER_PEER;
 use standing::types::Written;
 
-// Writes the standing of a slot's path, whatever the settings; 1 for a slot above 7, 2 for an empty one, then 16; a
-// refusal writes nothing.
+// Writes the standing of a slot's path; 1 for a slot above 7, 2 for an empty one, then 16; a refusal writes nothing.
 pub fn standing(rec: &[[[u64; 4]; ROWS]; PATH_MAX_PER_PEER], slot: u8, out: &mut [u8]) -> Written
-    ensures { λ r. ⌜ (r ≡ slotWritten (recordIn [] (now (rec .entry))) slot (length (now (out .entry))))
-        × (now (out .exit) ≡ slotOut (recordIn [] (now (rec .entry))) slot (now (out .entry))) ⌝ }
+    ensures { λ r. ⌜ (r ≡ slotWritten (map slotIn (now (rec .entry))) slot (length (now (out .entry))))
+        × (now (out .exit) ≡ slotOut (map slotIn (now (rec .entry))) slot (now (out .entry))) ⌝ }
 {
     slots(rec);
     if 7 < slot {

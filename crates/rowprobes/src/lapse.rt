@@ -56,16 +56,16 @@ fn scan(p: &mut [[u64; 4]; ROWS], heard: MaybeTime, cap: u64, at: u64, overdue: 
         (withRing (pathIn (now (p .entry))) (scanIn (now (p .entry)) heard cap at overdue .ring)) ⌝ }
 {
     rows(p);
-    loop {
+    let slot = loop {
         let i = first_passed(p, at, overdue);
         if i >= RING {
-            return i;
+            break i;
         }
         let s = sent(p, i);
         let wait = defer(s, heard, cap, at, overdue);
         match wait {
             MaybeTime::None => {
-                return i;
+                break i;
             }
             MaybeTime::Some(until) => {
                 let t = Sent {
@@ -78,7 +78,8 @@ fn scan(p: &mut [[u64; 4]; ROWS], heard: MaybeTime, cap: u64, at: u64, overdue: 
                 set_sent(p, i, t);
             }
         }
-    }
+    };
+    slot
 }
 
 // The probe at a place of the ring lapses.

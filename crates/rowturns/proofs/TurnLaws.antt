@@ -51,7 +51,12 @@ module _ (e : Event) {a b : List (List ℕ)} {d : Outcome} {r : Bool} (h : Settl
       turns-as (subst (λ (z : List (List ℕ)). Turns z c x (turnBy (slotIn z) (answerOf (pathIn z) (e .id)))) (h .left q) t)
       (sym (rw (sym (h .named) ∙ q)))
 
-module _ (t : Settings) (a : List (List ℕ)) (e : Event) {v : Verdict} (w : v ≡ verdictOf (refusals (slotIn a .used) e)) where
+-- the first refusal by settings and a mark that were read
+pub tried : (e : Event) {v : Verdict} {s t : Settings} {u w : Bool} → v ≡ verdictOf (refusals s u e) → s ≡ t → u ≡ w
+    → v ≡ verdictOf (refusals t w e)
+tried e h f g = h ∙ (λ j. verdictOf (refusals (f j) (g j) e))
+
+module _ (t : Settings) (a : List (List ℕ)) (e : Event) {v : Verdict} (w : v ≡ verdictOf (refusals t (slotIn a .used) e)) where
   -- a refusal leaves every word
   pub rows-refused : {why : Refusal} → v ≡ Refused why → Turns a a (reply.Refused why) (onSlot t (slotIn a) e)
   rows-refused {why} q = turns-as (turns-none refl refl) (slot-refused t (slotIn a) e w q refl)

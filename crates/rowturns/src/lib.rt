@@ -58,7 +58,8 @@ pub fn on_rows(t: &[u64; 4], p: &mut [[u64; 4]; ROWS], e: Event) -> Reply
         (onSlot (settingsIn (now (t .entry))) (slotIn (now (p .entry))) e) ⌝ }
 {
     let held = rows::whole::used(p);
-    let v = first_refusal(held, e);
+    let s = cells::marks::settings_in(*t);
+    let v = first_refusal(s, held, e);
     match v {
         Verdict::Refused(why) => Reply::Refused(why),
         Verdict::Pass => {

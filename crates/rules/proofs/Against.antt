@@ -3,12 +3,15 @@
 -- is refused first of an edit is the list of its name. once-draws and twelve-eleven have none: they change a number of the
 -- claim itself, and are refused where the theorem needs it.
 -- Assumes nothing.
-use Prim.Native.Nat.{ℕ}
+use Prim.Native.Nat.{ℕ, zero, suc, _≤_, _^_}
 use mathlib.Core.Bool.{Bool, false}
 use mathlib.Core.Path.{_≡_, refl}
 use mathlib.Core.List.{List, [], _∷_, _++_, map}
 use mathlib.Core.Logic.{inl, inr}
 use native.Mathlib.Omega.{arith}
+use lib.Dec.{eqb}
+use lib.ListN.{length}
+use Rattle.base.specs.Seq.{keep}
 use Rattle.base.proofs.Cases.{never}
 use Rattle.base.specs.Refusals.{refusalNumber}
 use Rattle.base.specs.declared.types.MaybeTime.the-variants as time
@@ -16,9 +19,9 @@ use Rattle.ring.specs.Ring.{waiting}
 use Rattle.rules.specs.Answers.{event, settings, answers}
 use Rattle.rules.specs.Event.{numberOf, valueOf}
 use Rattle.rules.specs.Rules.{refusals}
-use Rattle.rules.specs.Step.{freshRecord, run, step}
+use Rattle.rules.specs.Step.{Entry, freshRecord, run, step}
 use Rattle.rules.specs.Book.{Proved, Lost, answerSays, judgeSays, noted}
-use Rattle.rules.specs.Demand3.{Every, Sum, Stays, Rest, Near, marksOf, searchOf, slotAfter, bookAfter}
+use Rattle.rules.specs.Demand3.{Every, Sum, Stays, Sought, Carries, Rest, Near, marksOf, searchOf, slotAfter, bookAfter}
 use Rattle.rules.specs.declared.types.Settings.{Settings}
 use Rattle.rules.specs.declared.types.Event.{Event}
 
@@ -67,7 +70,7 @@ Searched es = searchOf (slotAfter t es 0 .path .sizes) ≡ bookAfter t es 0 .siz
 abbrev says : List Event → Event → ℕ
 says es e = valueOf (step (run (freshRecord t) es) e .reply)
 
--- ---- rings: a probe; its answer; two lapses; a deferral
+-- ---- rings: a probe; its answer; two lapses; one that is not due; a deferral
 
 rings-probe : Rings (opens 27 0 ∷ probe ∷ [])
 unfolding answers noted
@@ -81,15 +84,31 @@ rings-once : Rings (opens 27 0 ∷ probe ∷ probe ∷ poll ∷ [])
 unfolding answers noted
 rings-once = refl
 
+rings-early : Rings (opens 27 0 ∷ event 2 0 0 1 7 0 0 0 ∷ poll ∷ [])
+unfolding answers noted
+rings-early = refl
+
 rings-cap : Rings (opens 27 0 ∷ probe ∷ heard ∷ poll ∷ [])
 unfolding answers noted
 rings-cap = refl
 
--- ---- polls: what is deferred waits with a due that has passed
+-- ---- polls: what is deferred waits with a due that has passed, until its cap deadline
 
 polls-due : Every (Stays t 0 false) (bookAfter t (opens 27 0 ∷ probe ∷ heard ∷ poll ∷ []) 0 .probes .waiting)
 unfolding answers noted
 polls-due = (refl, tt)
+
+polls-gap : Every (Stays t 2 false)
+    (bookAfter t (opens 27 0 ∷ probe ∷ heard ∷ poll ∷ event 4 0 2 0 0 0 0 0 ∷ []) 0 .probes .waiting)
+unfolding answers noted
+polls-gap = tt
+
+-- ---- once: the second probe is not the first one
+
+once-anew : length
+    (keep (eqb 7) (bookAfter t (opens 27 0 ∷ probe ∷ answer 7 ∷ probe ∷ answer 7 ∷ []) 0 .probes .timely)) ≡ 1
+unfolding answers noted
+once-anew = refl
 
 -- ---- sums: a poll of nothing; a sweep of one
 
@@ -124,11 +143,37 @@ settled-early = refl
 
 -- ---- order: the refusals are tried in the table's order, 15 first
 
-order-kind : (used : Bool) (e : Event)
-    → map (λ x. refusalNumber (x .0)) (refusals used e) ≡ 15 ∷ 1 ∷ 2 ∷ 3 ∷ 4 ∷ 5 ∷ 6 ∷ []
-order-kind used e = refl
+order-kind : (t : Settings) (used : Bool) (e : Event)
+    → map (λ x. refusalNumber (x .0)) (refusals t used e) ≡ 15 ∷ 1 ∷ 2 ∷ 3 ∷ 4 ∷ 5 ∷ 6 ∷ []
+order-kind t used e = refl
 
--- ---- agrees: an open's flags; fresh; when a search probe was sent, and what size
+-- ---- settings: one of 2^62 or more that an event reads gives 6: poll the cap; answer and judge the gap; sample window and
+-- horizon. No other event reads one
+
+abbrev long : ℕ
+long = 2 ^ 62
+
+settings-cap : answers (settings long 1 1 1) (opens 27 0 ∷ poll ∷ []) ≡ (0, 0) ∷ (6, 0) ∷ []
+unfolding answers
+settings-cap = refl
+
+settings-gap : answers (settings 1 long 1 1) (opens 27 0 ∷ poll ∷ answer 7 ∷ judge 0 ∷ [])
+    ≡ (0, 0) ∷ (0, 0) ∷ (6, 0) ∷ (6, 0) ∷ []
+unfolding answers
+settings-gap = refl
+
+abbrev sample : Event
+sample = event 5 0 0 0 0 0 0 0
+
+settings-window : answers (settings 1 1 long 1) (opens 27 0 ∷ poll ∷ sample ∷ []) ≡ (0, 0) ∷ (0, 0) ∷ (6, 0) ∷ []
+unfolding answers
+settings-window = refl
+
+settings-horizon : answers (settings 1 1 1 long) (opens 27 0 ∷ judge 0 ∷ sample ∷ []) ≡ (0, 0) ∷ (0, 0) ∷ (6, 0) ∷ []
+unfolding answers
+settings-horizon = refl
+
+-- ---- agrees: an open's flags; fresh; when a search probe was sent, and what size; the next try after a judge
 
 agrees-fits : Marked (opens 27 32 ∷ [])
 unfolding answers noted
@@ -149,9 +194,43 @@ agrees-at : slotAfter t out 0 .path .sizes .seek .at ≡ time.Some (bookAfter t 
 unfolding answers noted
 agrees-at = refl
 
-agrees-full : Searched (opens 60 0 ∷ prove 27 ∷ search 0 ∷ probe ∷ answer 1 ∷ judge 0 ∷ search 3 ∷ [])
+-- 60 is lost
+abbrev missed : List Event
+missed = opens 60 0 ∷ prove 27 ∷ search 0 ∷ probe ∷ answer 1 ∷ judge 0 ∷ []
+
+agrees-next : slotAfter t missed 0 .path .sizes .seek .at ≡ bookAfter t missed 0 .sizing .next
+unfolding answers noted
+agrees-next = refl
+
+agrees-full : Searched (missed ++ search 3 ∷ [])
 unfolding answers noted
 agrees-full = refl
+
+-- ---- sought: with nothing proven nothing is proposed, nor before the next try. twelve: with a search probe out none
+-- either
+
+-- the entry of one more event
+abbrev gives : List Event → Event → Entry
+gives es e =
+    record { event = e; number = numberOf (step (run (freshRecord t) es) e .reply); value = says es e }
+
+sought-none : Sought (bookAfter t (opens 27 0 ∷ [])) (gives (opens 27 0 ∷ []) (search 0))
+    (bookAfter t (opens 27 0 ∷ search 0 ∷ []))
+unfolding answers noted
+sought-none j a = absurd (omega (arith, a .0))
+
+-- the next try is 3
+sought-early : Sought (bookAfter t missed) (gives missed (search 2)) (bookAfter t (missed ++ search 2 ∷ []))
+unfolding answers noted
+sought-early j a = absurd (omega (arith, a .0))
+
+abbrev searches : ℕ → List Event
+searches zero = []
+searches (suc n) = search 0 ∷ searches n
+
+twelve-again : bookAfter t (opens 28 0 ∷ prove 27 ∷ searches 13) 0 .sizing .tally .count ≤ 12
+unfolding answers noted
+twelve-again = omega arith
 
 -- ---- chosen: margin 1 is allowed; tier 0 takes part; not slot 0, if it is not open; a pinned one before a higher tier
 
@@ -183,12 +262,18 @@ chosen-pins : says (opensAt 0 8 ∷ opensAt 1 16 ∷ []) choose ≡ 1
 unfolding answers noted
 chosen-pins = refl
 
--- ---- rests: what is said of sizes, since the open; a lost size of proven + 33 makes none; with full 132 and 100 proven a
+-- ---- rests: what is said of sizes, and since the open; a lost size of proven + 33 makes none; with full 132 and 100 proven a
 -- link that carries just the sizes up to 131
 
 -- full 1,000 is lost
 abbrev lost : List Event
 lost = opens 1000 0 ∷ prove 27 ∷ search 0 ∷ probe ∷ answer 1 ∷ judge 0 ∷ []
+
+-- 59 is lost and cleared: that was said
+rests-said : Every (Carries 59)
+    (bookAfter t (opens 59 0 ∷ prove 27 ∷ search 0 ∷ probe ∷ answer 1 ∷ judge 0 ∷ []) 0 .sizing .words) → Near 59 59 27
+unfolding answers noted
+rests-said w = absurd (omega (arith, w .0))
 
 rests-open : bookAfter t (lost ++ prove 968 ∷ []) 0 .sizing .words ≡ Proved 968 ∷ Lost 1000 ∷ Proved 27 ∷ []
 unfolding answers noted

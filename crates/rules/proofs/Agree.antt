@@ -24,7 +24,7 @@ use Rattle.rules.specs.declared.types.Slot.{Slot}
 use Rattle.rules.proofs.Line.{Lane, laneOf, outCount, Line, new-line}
 use Rattle.halving.specs.Need.{span}
 use Rattle.halving.specs.Moves as size
-use Rattle.halving.specs.Moves.{move}
+use Rattle.halving.specs.Moves.{move, MoveSends}
 use Rattle.halving.proofs.Moves.{Kept, opened-kept, opened-under, out-of, by-move, Under}
 
 -- slot and book: they agree; the ring is the waiting line; the search is within its budget, for any bound that full
@@ -47,6 +47,7 @@ new-inv t s m e a f =
         search = ap (λ (p : Liveness). searchOf (p .sizes)) e;
         probe = λ o. absurd (omega arith);
         probeAt = λ o. absurd (omega arith);
+        next = λ o. ap (λ (p : Liveness). p .sizes .seek .at) e;
       };
       line = subst (λ (p : Liveness). Line t (laneOf p) (newBook m .probes) (outCount (p .sizes))) (sym e)
           (new-line t m);
@@ -79,6 +80,7 @@ align s b =
         };
         probe = b .sizing .probe;
         probeAt = b .sizing .probeAt;
+        next = b .sizing .next;
         words = b .sizing .words;
       };
     }
@@ -106,6 +108,7 @@ aligned t s b h = λ i.
         };
         probe = b .sizing .probe;
         probeAt = b .sizing .probeAt;
+        next = b .sizing .next;
         words = b .sizing .words;
       };
     }
@@ -164,6 +167,7 @@ module _ (t : Settings) (s : Slot) (b₀ : Book) where
             search = ap (λ (x : Sizes). searchOf x) g;
             probe = λ o. ap (λ (x : Sizes). x .seek .«probe_id») g ∙ h .agrees .probe o;
             probeAt = λ o. ap (λ (x : Sizes). x .seek .at) g ∙ h .agrees .probeAt o;
+            next = λ o. ap (λ (x : Sizes). x .seek .at) g ∙ h .agrees .next o;
           };
           line =
               subst (λ (l : Lane). Line t l (b .probes) (outCount (q .sizes))) (sym f)
@@ -174,9 +178,10 @@ module _ (t : Settings) (s : Slot) (b₀ : Book) where
         }
 
     -- the search after a move
-    pub move-kept : (m : size.Move) (k : ℕ) → s .label .full ≤ 27 + span k
+    pub move-kept : (m : size.Move) → MoveSends (s .label .full) (searchOf z) m
+        → (k : ℕ) → s .label .full ≤ 27 + span k
         → Kept (s .label .full) k (move (s .label .full) (b .sizing .tally) m)
-    move-kept m k w = by-move (s .label .full) k w (b .sizing .tally) m (h .sizing k w)
+    move-kept m q k w = by-move (s .label .full) k w (b .sizing .tally) m q (h .sizing k w)
 
     -- where a probe is out something is proven, and the probe is no longer than full
     pub known : 1 ≤ z .seek .len → (z .seek .len ≤ s .label .full) × ((n : ℕ) × (z .proven ≡ len.Some n))

@@ -10,10 +10,10 @@ use lib.Dec.{eqb}
 use borrow.Author.Tests.{eq-eqb}
 use Rattle.base.specs.declared.types.MaybeLen.the-variants as len
 use Rattle.base.proofs.Cases.{on-flag}
-use Rattle.rules.specs.Event.{Answer, Poll, Judge, is, bit}
+use Rattle.rules.specs.Event.{Answer, Poll, Search, Judge, is, bit}
 use Rattle.rules.specs.Step.{Entry}
 use Rattle.rules.specs.Book.{Acked, Lost, Book, Books, waits, outSize, isAck, isLoss, answerSays, judgeSays, clears, waitingAt, noted, note}
-use Rattle.rules.specs.Demand3.{Every, Once, Stays, Polled, AtMost, Carries, Rest, Rested, Settled}
+use Rattle.rules.specs.Demand3.{Every, Accepted, Once, Stays, Polled, Sought, AtMost, Carries, Rest, Rested, Settled}
 use Rattle.rules.specs.declared.types.Settings.{Settings}
 use Rattle.rules.specs.declared.types.Event.{Event}
 use Rattle.rules.specs.declared.types.Slot.{Slot}
@@ -21,9 +21,10 @@ use Rattle.rules.proofs.Turns.{by-number}
 use Rattle.rules.proofs.Passing.{stays}
 use Rattle.rules.proofs.Line.{laneOf, outCount}
 use Rattle.rules.proofs.Agree.{Inv, and-true}
+use Rattle.rules.proofs.Kept.{Proposed}
 use Rattle.halving.specs.Need.{span}
 use Rattle.halving.specs.Moves as size
-use Rattle.halving.specs.Moves.{move, clearing}
+use Rattle.halving.specs.Moves.{move, proposed, clearing}
 use Rattle.halving.proofs.Limit.{close-limit}
 use Rattle.halving.proofs.Moves.{most-of, clearing-limit}
 
@@ -64,6 +65,15 @@ module _ (t : Settings) (b : Book) (e : Event) (v : ℕ) where
   tally-lost q f =
       by-number (λ (x : Event). isLoss b x ≡ true → noted t b x v .sizing .tally ≡ moved size.Judge) Judge e q
       (λ f. rw f) f
+
+  -- the size out after a search is the one proposed
+  sought-out : is Search e ≡ true → (w : Proposed b (e .now)) → w .0 ≡ outSize (noted t b e v)
+  unfolding noted
+  sought-out q w = by-number (λ (x : Event). w .0 ≡ outSize (noted t b x v)) Search e q (rw (w .1))
+
+  pub sought-noted : is Search e ≡ true → Proposed b (e .now)
+      → proposed (b .marks .full) (b .sizing .tally .search) ≡ len.Some (outSize (noted t b e v))
+  sought-noted q w = w .1 ∙ ap (λ (n : ℕ). len.Some n) (sought-out q w)
 
   -- ---- a clearing, where the link carries just the sizes up to L
 
@@ -133,6 +143,14 @@ module _ (t : Settings) (before after : ℕ → Slot) (bs : Books) (x : Entry) (
 
   pub twelve-at : AtMost 12 bs x (note t bs x)
   twelve-at = few-at 11 (λ j. omega (arith, n j .whole))
+
+  pub sought-at : ((j : ℕ) → Accepted Search j x → Proposed (bs j) (x .event .now)) → Sought bs x (note t bs x)
+  sought-at w j a = (
+    w j a .2,
+    subst (λ (b : Book). proposed (bs j .marks .full) (bs j .sizing .tally .search) ≡ len.Some (outSize b))
+        (sym (noted-at j (a .0) (a .1)))
+        (sought-noted t (bs j) (x .event) (x .value) (a .2) (w j a)),
+  )
 
   pub rested-at : Rested bs x (note t bs x)
   rested-at L j m w pm rest = (n j .limit L w .0 m pm, go rest)

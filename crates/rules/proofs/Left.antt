@@ -154,9 +154,9 @@ passes-clear [] ok = refl
 passes-clear (x ∷ l) ok = rw (ok .0) (passes-clear l (ok .1))
 
 pub accepted-clear : (t : Settings) (s : Slot) (e : Event) → numberOf (onSlot t s e .reply) ≡ 0
-    → isClear (s .used) e ≡ true
+    → isClear t (s .used) e ≡ true
 unfolding onSlot isClear
 accepted-clear t s e =
-    refused-or (λ (u : Turn). numberOf (u .reply) ≡ 0 → isClear (s .used) e ≡ true) (refusals (s .used) e) s _
+    refused-or (λ (u : Turn). numberOf (u .reply) ≡ 0 → isClear t (s .used) e ≡ true) (refusals t (s .used) e) s _
     (λ why n. absurd (eqb-false (refusalNumber why) 0 (refused-number why) n))
-    (λ ok n. passes-clear (refusals (s .used) e) ok)
+    (λ ok n. passes-clear (refusals t (s .used) e) ok)

@@ -104,7 +104,7 @@ module _ (t : Settings) (s : Slot) (b₀ : Book) where
     unfolding noted
     data-kept f few =
         record {
-          agrees = record { marks = refl; search = refl; probe = h .agrees .probe; probeAt = h .agrees .probeAt };
+          agrees = record { marks = refl; search = refl; probe = h .agrees .probe; probeAt = h .agrees .probeAt; next = h .agrees .next };
           line = record {
             ring = h .line .ring;
             heard = refl;
@@ -133,7 +133,7 @@ module _ (t : Settings) (s : Slot) (b₀ : Book) where
         let n : outstandingOf (p .ring) ≡ length (b .probes .waiting) =
         ap length (holds-kept isUsed noSent refl (h .line .ring)) ∙ length-map (b .probes .waiting) probeOf in
         record {
-          agrees = record { marks = refl; search = refl; probe = h .agrees .probe; probeAt = h .agrees .probeAt };
+          agrees = record { marks = refl; search = refl; probe = h .agrees .probe; probeAt = h .agrees .probeAt; next = h .agrees .next };
           line = record {
             ring = record { used = refl; fits = omega arith; full = refl };
             heard = refl;
@@ -173,7 +173,7 @@ module _ (t : Settings) (s : Slot) (b₀ : Book) where
     unfolding noted
     sent-kept since f few =
         record {
-          agrees = record { marks = refl; search = refl; probe = h .agrees .probe; probeAt = h .agrees .probeAt };
+          agrees = record { marks = refl; search = refl; probe = h .agrees .probe; probeAt = h .agrees .probeAt; next = h .agrees .next };
           line = line-send t (laneOf p) (b .probes) (outCount z) (h .line) (e₀ .id) now (e₀ .span) size f few;
           whole = h .whole;
           sizing = h .sizing;

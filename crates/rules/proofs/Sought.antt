@@ -6,8 +6,9 @@ use mathlib.Core.Path.{_≡_, refl, ap, sym, _∙_, subst}
 use mathlib.Core.List.{[], _∷_}
 use native.Mathlib.Omega.{arith}
 use lib.Dec.{eqb}
-use borrow.Author.Tests.{eqb-true}
+use borrow.Author.Tests.{eqb-true, eq-eqb}
 use Rattle.base.specs.Limits.{minLen, isOverlong, isUndersize, isEndless}
+use Rattle.base.specs.Time.{deadlineOf}
 use Rattle.base.specs.declared.types.Refusal.{Refusal}
 use Rattle.base.specs.declared.types.Refusal.the-variants as refusal
 use Rattle.base.specs.declared.types.MaybeLen.{MaybeLen}
@@ -38,7 +39,7 @@ use Rattle.rules.proofs.Laws.{or-false, occ}
 use Rattle.rules.proofs.Turns.{Next, refused, withKind, Work}
 use Rattle.rules.proofs.Line.{Lane, laneOf, outCount, none-count, Line, line-less, line-search}
 use Rattle.rules.proofs.Agree.{Inv, align, same, move-kept, known, and-true, not-zero}
-use Rattle.rules.proofs.Sizing.{judged-is, send-is}
+use Rattle.rules.proofs.Sizing.{judged-is, judged-next, proposal-some, send-is}
 use Rattle.halving.specs.Moves as size
 use Rattle.halving.specs.Moves.{move}
 use Rattle.halving.proofs.Moves.{under-move}
@@ -80,12 +81,12 @@ module _ (t : Settings) (s : Slot) (b₀ : Book) where
             marks = refl;
             search = refl;
             probe = λ o. absurd (omega arith);
-            probeAt =
-                λ o. absurd (omega arith);
+            probeAt = λ o. absurd (omega arith);
+            next = λ o. refl;
           };
           line = line-less t (laneOf p) (b .probes) (outCount z) (λ x. 0) (λ x. omega arith) (h .line);
           whole = h .whole;
-          sizing = move-kept t s b₀ h size.Fresh;
+          sizing = move-kept t s b₀ h size.Fresh tt;
           limit = λ L w. under-move L (s .label .full) T size.Fresh (h .limit L w) tt;
         }
 
@@ -103,10 +104,11 @@ module _ (t : Settings) (s : Slot) (b₀ : Book) where
             search = sym q;
             probe = λ y. h .agrees .probe (omega (arith, out));
             probeAt = λ y. h .agrees .probeAt (omega (arith, out));
+            next = λ y. h .agrees .next (omega (arith, out));
           };
           line = h .line;
           whole = h .whole;
-          sizing = move-kept t s b₀ h (size.Prove (e₀ .len));
+          sizing = move-kept t s b₀ h (size.Prove (e₀ .len)) tt;
           limit = λ L w. under-move L (s .label .full) T (size.Prove (e₀ .len)) (h .limit L (w .1)) (w .0);
         }
 
@@ -122,19 +124,24 @@ module _ (t : Settings) (s : Slot) (b₀ : Book) where
     -- ---- search
 
     -- a size is proposed
-    abbrev Proposes : ℕ → Type 0
-    Proposes n = (z .seek .len ≡ 0) × (search.proposeOf (z .seek .lost) (z .proven) (s .label .full) ≡ len.Some n)
+    abbrev pub Proposes : ℕ → Type 0
+    Proposes n =
+        (z .seek .len ≡ 0) × (search.proposeOf (z .seek .lost) (z .proven) (s .label .full) ≡ len.Some n)
+        × (search.mayTry (z .seek .at) now ≡ true)
 
     proposes : (n : ℕ) → search.searchSize z (s .label .full) now ≡ len.Some n → Proposes n
     unfolding search.searchSize
-    proposes n q = go (eqb (z .seek .len) 0) (search.mayTry (z .seek .at) now) refl q
+    proposes n q = go (eqb (z .seek .len) 0) (search.mayTry (z .seek .at) now) refl refl q
       where
-        go : (f g : Bool) → eqb (z .seek .len) 0 ≡ f
+        go : (f g : Bool) → eqb (z .seek .len) 0 ≡ f → search.mayTry (z .seek .at) now ≡ g
             → cond (f && g) (search.proposeOf (z .seek .lost) (z .proven) (s .label .full)) len.None ≡ len.Some n
             → Proposes n
-        go true true f q = (eqb-true (z .seek .len) 0 f, q)
-        go true false f q = none-some q
-        go false g f q = none-some q
+        go true true f k q = (eqb-true (z .seek .len) 0 f, q, k)
+        go true false f k q = none-some q
+        go false g f k q = none-some q
+
+    pub proposed-is : (n : ℕ) → Proposes n → size.proposed (s .label .full) (searchOf z) ≡ len.Some n
+    proposed-is n q = rw (eq-eqb (z .seek .len) 0 (q .0)) (q .1)
 
     out-most : (n v x : ℕ) → cond (eqb n 0) 0 (occ x (v ∷ [])) ≤ occ x (v ∷ [])
     out-most n v x = cond-cases (λ (m : ℕ). m ≤ occ x (v ∷ [])) (eqb n 0) 0 (occ x (v ∷ [])) (λ f. omega arith)
@@ -145,39 +152,51 @@ module _ (t : Settings) (s : Slot) (b₀ : Book) where
     unfolding noted search.sentSearch
     searched-kept n q few =
         let v : ℕ = takenOf (p .ids .«next_id») (e₀ .id) in
+        let sent = send-is z (T .cleared) (T .count) (s .label .full) n (q .0) (q .1) in
         record {
           agrees = record {
             marks = refl;
-            search = sym (ap (λ (x : size.Tally). x .search)
-                (send-is z (T .cleared) (T .count) (s .label .full) n (q .0) (q .1)));
+            search = sym (ap (λ (x : size.Tally). x .search) sent);
             probe = λ o. refl;
             probeAt = λ o. refl;
+            next = λ o. absurd (omega (
+              arith,
+              ap (λ (x : size.Tally). x .search .out) sent,
+              proposal-some (z .seek .lost) (z .proven) (s .label .full) n (q .1),
+            ));
           };
           line =
               line-search t (laneOf p) (b .probes) (outCount z) (h .line) (e₀ .id)
               (λ x. cond (eqb n 0) 0 (occ x (v ∷ [])))
               (out-most n (takenOf (p .ids .«next_id») (e₀ .id))) few;
           whole = h .whole;
-          sizing = move-kept t s b₀ h size.Send;
+          sizing = move-kept t s b₀ h size.Send (n, proposed-is n q);
           limit = λ L w. under-move L (s .label .full) T size.Send (h .limit L w) tt;
         }
 
-    by-size : (o : MaybeLen) → ((n : ℕ) → o ≡ len.Some n → Proposes n)
-        → N 8 (searched (live.lenOr refusal.NoSize o) s (e 8))
-    unfolding live.seekSendOf
-    by-size len.None q = no 8 refusal.NoSize
-    by-size (len.Some n) q =
-        cond-cases (λ (x : Outcome). N 8 (turnBy s x)) (isOverlong n) _ _
-        (λ f. no 8 refusal.Length) (λ f. searched-kept n (q n refl))
+    -- the cases of a search: refused, or a size is proposed and sent
+    module _ (Q : Turn → Type 0) (no : (why : Refusal) → Q (turn s p (reply.Refused why)))
+        (yes : (n : ℕ) → Proposes n
+        → Q (turnBy s (live.seekSentAt (takeIdOf p (e₀ .id) .path) now n (takeIdOf p (e₀ .id) .id)))) where
+      size-cases : (o : MaybeLen) → ((n : ℕ) → o ≡ len.Some n → Proposes n)
+          → Q (searched (live.lenOr refusal.NoSize o) s (e 8))
+      unfolding live.seekSendOf
+      size-cases len.None q = no refusal.NoSize
+      size-cases (len.Some n) q =
+          cond-cases (λ (x : Outcome). Q (turnBy s x)) (isOverlong n) _ _
+          (λ f. no refusal.Length) (λ f. yes n (q n refl))
+
+      pub search-cases : Q (searched (live.seekSizeOf p (s .label .full) now) s (e 8))
+      unfolding live.seekSizeOf
+      search-cases =
+          cond-cases (λ (x : Answer). Q (searched x s (e 8))) (isOverlong (s .label .full)) _ _
+          (λ f. no refusal.Length)
+          (λ f. cond-cases (λ (x : Answer). Q (searched x s (e 8))) (isUndersize (s .label .full)) _ _
+          (λ g. no refusal.Length)
+          (λ g. size-cases (search.searchSize z (s .label .full) now) proposes))
 
     pub by-search : Work t s e₀ N 8
-    unfolding live.seekSizeOf
-    by-search ok =
-        cond-cases (λ (x : Answer). N 8 (searched x s (e 8))) (isOverlong (s .label .full)) _ _
-        (λ f. no 8 refusal.Length)
-        (λ f. cond-cases (λ (x : Answer). N 8 (searched x s (e 8))) (isUndersize (s .label .full)) _ _
-        (λ g. no 8 refusal.Length)
-        (λ g. by-size (search.searchSize z (s .label .full) now) proposes))
+    by-search ok = search-cases (N 8) (no 8) searched-kept
 
     -- ---- judge
 
@@ -212,9 +231,11 @@ module _ (t : Settings) (s : Slot) (b₀ : Book) where
 
     lost-kept : (q : Liveness) → lost ≡ true → laneOf q ≡ laneOf p
         → searchOf (q .sizes) ≡ move (s .label .full) T size.Judge .search
+        → q .sizes .seek .at ≡ cond (size.clearing (searchOf z) size.Judge)
+        (time.Some (deadlineOf 64 now search.raiseGap)) (time.Some (deadlineOf 64 (b .sizing .probeAt) (t .gap)))
         → q .sizes .seek .len ≡ 0 → N 9 (turn s q reply.Lost)
     unfolding noted
-    lost-kept q l f g n =
+    lost-kept q l f g m n =
         let none : move (s .label .full) T size.Judge .search .out ≡ 0 = sym (ap (λ (x : size.Search). x .out) g) ∙ n in
         rw (loss-is ∙ l) (λ few.
         record {
@@ -222,14 +243,14 @@ module _ (t : Settings) (s : Slot) (b₀ : Book) where
             marks = refl;
             search = g;
             probe = λ y. absurd (omega (arith, none));
-            probeAt =
-                λ y. absurd (omega (arith, none));
+            probeAt = λ y. absurd (omega (arith, none));
+            next = λ y. m;
           };
           line =
               line-less t (laneOf q) (b .probes) (outCount z) (outCount (q .sizes)) (none-count (q .sizes) z n)
               (subst (λ (l : Lane). Line t l (b .probes) (outCount z)) (sym f) (h .line));
           whole = h .whole;
-          sizing = move-kept t s b₀ h size.Judge;
+          sizing = move-kept t s b₀ h size.Judge tt;
           limit = λ L w. under-move L (s .label .full) T size.Judge (h .limit L (w .1)) (λ y. w .0);
         })
 
@@ -256,5 +277,7 @@ module _ (t : Settings) (s : Slot) (b₀ : Book) where
         let some : 1 ≤ z .seek .len = lost-out (z .seek .at) q in
         let k = known t s b₀ h some in
         lost-kept (withSizes p (search.dropOf z (knownOf minLen (z .proven)) now (t .gap) .sizes)) q refl
-        (judged-is z (T .cleared) (T .count) (s .label .full) some (k .1 .0) (k .1 .1) now (t .gap)) refl)
+        (judged-is z (T .cleared) (T .count) (s .label .full) some (k .1 .0) (k .1 .1) now (t .gap))
+        (judged-next z (T .cleared) (T .count) (s .label .full) some (k .1 .0) (k .1 .1) now (t .gap)
+        (b .sizing .probeAt) (h .agrees .probeAt some)) refl)
         waits-kept

@@ -15,11 +15,11 @@ use Rattle.base.proofs.Cases.{on-flag, on-order, never, cond-cases}
 use Rattle.base.proofs.BookLaws.{holds-kept}
 use Rattle.ring.specs.Ring.{noSent, isUsed}
 use Rattle.select.specs.Choice.{pickedOf}
-use Rattle.rules.specs.Event.{Kind, Answer, Judge, Choose, kindNumber, is, numberOf, valueOf}
+use Rattle.rules.specs.Event.{Kind, Answer, Search, Judge, Choose, kindNumber, is, numberOf, valueOf}
 use Rattle.rules.specs.Rules.{emptySlot, turn, onSlot}
 use Rattle.rules.specs.Step.{Entry, freshRecord, allowed, slotAt, put, rivalsAt, marginOf, choiceOf, step, run, trace}
 use Rattle.rules.specs.Book.{Book, Books, newBook, noMarks, noted, blanks, note, noteAll, answerSays, judgeSays}
-use Rattle.rules.specs.Demand3.{Clause, Each, Once, Polled, AtMost, Rested, Chosen, Settled, Few, FewDraws, Demand3, Demand3Holds}
+use Rattle.rules.specs.Demand3.{Clause, Each, Accepted, Once, Polled, Sought, AtMost, Rested, Chosen, Settled, Few, FewDraws, Demand3, Demand3Holds}
 use Rattle.rules.specs.declared.types.Settings.{Settings}
 use Rattle.rules.specs.declared.types.Event.{Event}
 use Rattle.rules.specs.declared.types.Reply.the-variants as reply
@@ -30,9 +30,9 @@ use Rattle.rules.specs.declared.types.Stepped.{Stepped}
 use Rattle.rules.proofs.Laws.{and-second, refused-number}
 use Rattle.rules.proofs.Turns.{after, Next, by-number}
 use Rattle.rules.proofs.Agree.{Inv, new-inv}
-use Rattle.rules.proofs.Kept.{Says, kept, said}
+use Rattle.rules.proofs.Kept.{Proposed, Says, kept, said}
 use Rattle.rules.proofs.Choosing.{picked-from, chooses}
-use Rattle.rules.proofs.Clauses.{once-at, polled-at, twelve-at, rested-at}
+use Rattle.rules.proofs.Clauses.{once-at, polled-at, twelve-at, sought-at, rested-at}
 
 and-one : (a b : Bool) → b ≡ true → (a && b) ≡ a
 and-one true b e = e
@@ -71,6 +71,7 @@ record Did (t : Settings) (r : Record) (bs : Books) (e : Event) (o : Stepped) : 
   next : Few bs (entry e o) (note t bs (entry e o)) → Good t (o .next) (note t bs (entry e o))
   settled : Settled bs (entry e o) (note t bs (entry e o))
   chosen : Chosen bs (entry e o) (note t bs (entry e o))
+  sought : (j : ℕ) → Accepted Search j (entry e o) → Proposed (bs j) (e .now)
 
 module _ (t : Settings) (small : allowed t ≡ true) (r : Record) (bs : Books) (g : Good t r bs) (e : Event) where
   abbrev i : ℕ
@@ -106,6 +107,7 @@ module _ (t : Settings) (small : allowed t ≡ true) (r : Record) (bs : Books) (
         chosen = λ c m. rw m
             (chooses r bs (λ j. g .slots j .agrees) (pickedOf (rivalsAt 0 (r .slots)) (marginOf e))
             (picked-from (rivalsAt 0 (r .slots)) (marginOf e)));
+        sought = λ j a. not-both Search Choose (a .2) q (λ (z : 8 ≡ 15). omega arith);
       }
 
   -- ---- all other events do their work on one slot
@@ -181,6 +183,7 @@ module _ (t : Settings) (small : allowed t ≡ true) (r : Record) (bs : Books) (
           λ a. subst (λ (n : ℕ). valueOf (u .reply) ≡ judgeSays (bs n) e) (a .1) (w (a .0) .1 (a .2)),
         );
         chosen = λ q m. never q c;
+        sought = λ j a. subst (λ (n : ℕ). Proposed (bs n) (e .now)) (a .1) (w (a .0) .2 (a .2));
       }
 
   did : Did t r bs e (step r e)
@@ -245,6 +248,10 @@ module _ (t : Settings) (small : allowed t ≡ true) where
     twelve : At (AtMost 12)
     twelve = twelve-at t before behind bs (entry e (step r e)) (g .slots) (n .slots) (did t small r bs g e .settled)
 
+    sought : At Sought
+    sought = sought-at t before behind bs (entry e (step r e)) (g .slots) (n .slots) (did t small r bs g e .settled)
+        (did t small r bs g e .sought)
+
     rests : At Rested
     rests = rested-at t before behind bs (entry e (step r e)) (g .slots) (n .slots) (did t small r bs g e .settled)
 
@@ -257,6 +264,7 @@ module _ (t : Settings) (small : allowed t ≡ true) where
         once = along Once once es (freshRecord t) blanks start few;
         polls = along (Polled t) polls es (freshRecord t) blanks start few;
         twelve = along (AtMost 12) twelve es (freshRecord t) blanks start few;
+        sought = along Sought sought es (freshRecord t) blanks start few;
         rests = along Rested rests es (freshRecord t) blanks start few;
         chosen = along Chosen (λ r bs g e n. did t small r bs g e .chosen) es (freshRecord t) blanks start few;
         settled = along Settled (λ r bs g e n. did t small r bs g e .settled) es (freshRecord t) blanks start few;

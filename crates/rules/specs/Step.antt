@@ -37,9 +37,12 @@ freshRecord t = record { settings = t; slots = replicate 8 emptySlot }
 unfoldable pub recordOf : Settings → Stepped
 recordOf t = record { next = freshRecord t; reply = cond (allowed t) reply.Nothing (reply.Refused refusal.Duration) }
 
--- the slot with a number, and the record with that slot changed
+-- the slot with a number, of a list of slots and of a record, and the record with that slot changed
+abbrev pub slotWith : List Slot → ℕ → Slot
+slotWith l i = getD l i emptySlot
+
 abbrev pub slotAt : Record → ℕ → Slot
-slotAt r i = getD (r .slots) i emptySlot
+slotAt r i = slotWith (r .slots) i
 
 abbrev pub put : Record → ℕ → Turn → Stepped
 put r i t = record { next = record { settings = r .settings; slots = set (r .slots) i (t .slot) }; reply = t .reply }

@@ -108,7 +108,7 @@ scoreCall p c =
     (cond (eqb (c .op) 41) (valued p (etxBits (p .etx)))
     (sized p (p .sizes .proven))))))
 
--- 43 frames, 44 bytes, 45 heard_at, 46 data_at, 47 quiet, 48 whether what `answer` gives is matching; any other gets 15
+-- 43 frames, 44 bytes, 45 heard_at, 46 data_at, 47 quiet, 48 whether what `answer` gives is matching
 unfoldable pub countCall : Liveness → Call → Called
 countCall p c =
     cond (eqb (c .op) 43) (valued p (p .traffic .frames))
@@ -116,8 +116,14 @@ countCall p c =
     (cond (eqb (c .op) 45) (timed p (p .traffic .«heard_at»))
     (cond (eqb (c .op) 46) (timed p (p .traffic .«data_at»))
     (cond (eqb (c .op) 47) (timed p (p .silence .quiet))
-    (cond (eqb (c .op) 48) (matched (answerOf p (low32 (c .a))))
-    (kindless p))))))
+    (matched (answerOf p (low32 (c .a))))))))
+
+-- 49 and 50: send and answer as calls 2 and 3, on a path that is changed through a reference; any other gets 15
+unfoldable pub refCall : Liveness → Call → Called
+refCall p c =
+    cond (eqb (c .op) 49) (outcome (sendOf p (c .a) (c .b) (low32 (c .c)) (low32 (c .d))))
+    (cond (eqb (c .op) 50) (outcome (answerOf p (low32 (c .a))))
+    (kindless p))
 
 -- the calls from 20 on
 unfoldable pub highCall : Liveness → Call → Called
@@ -126,7 +132,8 @@ highCall p c =
     (cond (ltb (c .op) 31) (timeCall p c)
     (cond (ltb (c .op) 37) (readCall p c)
     (cond (ltb (c .op) 43) (scoreCall p c)
-    (countCall p c))))
+    (cond (ltb (c .op) 49) (countCall p c)
+    (refCall p c)))))
 
 -- one call
 unfoldable pub callOf : Liveness → Call → Called

@@ -1,7 +1,7 @@
 // The calls of a script, by their numbers.
 ghost use mathlib.Core.Path.{_≡_};
 ghost use Rattle.script.specs.Calls.{low32, isOdd, sentOf, probeCall, lineCall, sizeCall, seekCall, stopCall};
-ghost use Rattle.script.specs.Calls.{timeCall, readCall, scoreCall, countCall, highCall, callOf};
+ghost use Rattle.script.specs.Calls.{timeCall, readCall, scoreCall, countCall, refCall, highCall, callOf};
 use crate::answers::*;
 use crate::types::*;
 use live::types::Liveness;
@@ -153,7 +153,7 @@ fn score_call(path: Liveness, c: Call) -> Called
     }
 }
 
-// Calls 43 to 48: the counts, the clocks and whether an answer matches; any other is refused as 15.
+// Calls 43 to 48: the counts, the clocks and whether an answer matches.
 fn count_call(path: Liveness, c: Call) -> Called
     ensures { λ r. ⌜ r ≡ countCall path c ⌝ }
 {
@@ -164,7 +164,18 @@ fn count_call(path: Liveness, c: Call) -> Called
         45 => tell_time(path, path.heard_at()),
         46 => tell_time(path, path.data_at()),
         47 => tell_time(path, path.quiet()),
-        48 => of_matching(path.answer(low32(c.a))),
+        _ => of_matching(path.answer(low32(c.a))),
+    }
+}
+
+// Calls 49 and 50: a send and an answer through a reference to the path; any other is refused as 15.
+fn ref_call(path: Liveness, c: Call) -> Called
+    ensures { λ r. ⌜ r ≡ refCall path c ⌝ }
+{
+    let op = c.op;
+    match op {
+        49 => of_outcome(live_ref::send_in(path, c.a, c.b, low32(c.c), low32(c.d))),
+        50 => of_outcome(live_ref::answer_in(path, low32(c.a))),
         _ => no_kind(path),
     }
 }
@@ -185,7 +196,10 @@ fn high_call(path: Liveness, c: Call) -> Called
     if c.op < 43 {
         return score_call(path, c);
     }
-    count_call(path, c)
+    if c.op < 49 {
+        return count_call(path, c);
+    }
+    ref_call(path, c)
 }
 
 // Carries out one call on a path.

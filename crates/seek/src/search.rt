@@ -213,14 +213,22 @@ pub fn seek_judge(s: Sizes, answered: MaybeId, now: u64, timeout: u64, gap: u64)
     ensures { λ r. ⌜ r ≡ judgedSearch s answered now timeout gap ⌝ }
 {
     let seek = s.seek;
-    if judges(seek, answered, now, timeout) {
-        let proven = s.proven;
-        return drop_out(s, known(proven), now, gap);
-    }
-    Judged {
+    let waits = Judged {
         sizes: s,
         lost: false,
+    };
+    let next = seek.at;
+    let MaybeTime::Some(at) = next else {
+        return waits;
+    };
+    if (seek.len == 0) | !is_lost(at, seek.probe_id, answered, now, timeout) {
+        return waits;
     }
+    let proven = s.proven;
+    let MaybeLen::Some(size) = proven else {
+        return drop_out(s, PATH_PROBE_MIN_SIZE, now, gap);
+    };
+    drop_out(s, size, now, gap)
 }
 
 // Takes `len` bytes as proven, by a probe of the ring.

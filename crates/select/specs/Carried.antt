@@ -1,6 +1,6 @@
 -- The largest frame that a path carries (the Rust's `carried` and `heeded`, whose bodies are the definition), with the
 -- refusal 5.
-use Prim.Native.Nat.{ℕ, _+_, min}
+use Prim.Native.Nat.{ℕ, _+_, _-_, min}
 use mathlib.Core.Bool.{Bool, not, cond}
 use Rattle.base.specs.Limits.{isOverlong}
 use Rattle.base.specs.declared.types.Refusal.the-variants.{Length}
@@ -9,9 +9,19 @@ use Rattle.base.specs.declared.types.MaybeLen.the-variants.{None, Some}
 use Rattle.select.specs.declared.types.SizeAnswer.{SizeAnswer}
 use Rattle.select.specs.declared.types.SizeAnswer.the-variants as answers
 
--- the bytes of a frame around a path message, `FRAME_OVERHEAD`
+-- the Rust's ESTABLISHED_HEADER_SIZE and INNER_HEADER_SIZE (fmp/wire.rs) and TAG_SIZE (fsp/wire.rs)
+abbrev pub outerHeader : ℕ
+outerHeader = 16
+
+abbrev pub innerHeader : ℕ
+innerHeader = 5
+
+abbrev pub sealTag : ℕ
+sealTag = 16
+
+-- the bytes of a frame around a path message, `FRAME_OVERHEAD`: the message's type byte is the inner header's too
 abbrev pub frameOverhead : ℕ
-frameOverhead = 36
+frameOverhead = outerHeader + (innerHeader - 1) + sealTag
 
 -- the proven size bounds the frames on a connectionless transport only
 abbrev pub heededOf : Bool → Bool

@@ -6,8 +6,17 @@ use base::limits::MAX_LEN;
 use base::types::MaybeLen;
 use base::types::Refusal;
 
-// The bytes of a frame around a path message.
-pub const FRAME_OVERHEAD: u32 = 36;
+// The outer header of an established frame.
+const ESTABLISHED_HEADER_SIZE: u32 = 16;
+
+// The inner header, with the type of the message.
+const INNER_HEADER_SIZE: u32 = 5;
+
+// The tag that seals it.
+const TAG_SIZE: u32 = 16;
+
+// The bytes of a frame around a path message, whose type byte the inner header has too.
+pub const FRAME_OVERHEAD: u32 = ESTABLISHED_HEADER_SIZE + (INNER_HEADER_SIZE - 1) + TAG_SIZE;
 
 // Whether the size that a path proves bounds the frames it carries: on a connectionless transport.
 pub fn heeded(oriented: bool) -> bool

@@ -11,9 +11,8 @@ use Rattle.base.specs.declared.types.Refusal.the-variants as refusal
 use Rattle.octets.specs.Octets.{flat, over}
 use Rattle.octets.proofs.Fill.{Filled, filled-over, over-not}
 use Rattle.rules.specs.Rules.{emptySlot}
-use Rattle.rules.specs.Step.{slotAt}
+use Rattle.rules.specs.Step.{slotWith}
 use Rattle.rules.specs.declared.types.Slot.{Slot}
-use Rattle.rules.specs.declared.types.Record.{Record}
 use Rattle.standing.specs.Standing.{standingOf, partsOf, bytesIn, standingBytes, writtenOf, slotWritten, slotOut}
 use Rattle.standing.specs.declared.types.Standing.{Standing}
 use Rattle.standing.specs.declared.types.Field.{Field}
@@ -50,30 +49,30 @@ at-any [] i d d₂ h = absurd (omega arith)
 at-any (x ∷ l) zero d d₂ h = refl
 at-any (x ∷ l) (suc i) d d₂ h = at-any l i d d₂ (omega arith)
 
--- of a slot of the record
-module _ (r : Record) (i : ℕ) (l : List ℕ) where
+-- of a slot of a record, by its slots
+module _ (r : List Slot) (i : ℕ) (l : List ℕ) where
   pub slot-above : 7 < i → (written.Refused refusal.Slot ≡ slotWritten r i (length l)) × (l ≡ slotOut r i l)
   unfolding slotWritten slotOut
   slot-above h = (simp (lt-ltb 7 i h), simp (lt-ltb 7 i h))
 
-  module _ (h : i ≤ 7) (eight : length (r .slots) ≡ 8) (d : Slot) where
-    inside : slotAt r i ≡ getD (r .slots) i d
-    inside = at-any (r .slots) i emptySlot d (omega (arith, eight))
+  module _ (h : i ≤ 7) (eight : length r ≡ 8) (d : Slot) where
+    inside : slotWith r i ≡ getD r i d
+    inside = at-any r i emptySlot d (omega (arith, eight))
 
-    pub slot-empty : getD (r .slots) i d .used ≡ false
+    pub slot-empty : getD r i d .used ≡ false
         → (written.Refused refusal.Empty ≡ slotWritten r i (length l)) × (l ≡ slotOut r i l)
     unfolding slotWritten slotOut
     slot-empty e =
-        let u : slotAt r i .used ≡ false = ap (λ (s : Slot). s .used) inside ∙ e in
+        let u : slotWith r i .used ≡ false = ap (λ (s : Slot). s .used) inside ∙ e in
         (simp (le-ltb 7 i h, u), simp (le-ltb 7 i h, u))
 
-    pub slot-told : getD (r .slots) i d .used ≡ true → {s : Standing} → s ≡ standingOf (getD (r .slots) i d .path)
+    pub slot-told : getD r i d .used ≡ true → {s : Standing} → s ≡ standingOf (getD r i d .path)
         → {w : Written} {m : List ℕ} → (w ≡ writtenOf s (length l)) × (m ≡ over (standingBytes s) l)
         → (w ≡ slotWritten r i (length l)) × (m ≡ slotOut r i l)
     unfolding slotWritten slotOut
     slot-told e {s} q {w} {m} k =
-        let u : slotAt r i .used ≡ true = ap (λ (s : Slot). s .used) inside ∙ e in
-        let p : s ≡ standingOf (slotAt r i .path) = q ∙ ap (λ (s : Slot). standingOf (s .path)) (sym inside) in (
+        let u : slotWith r i .used ≡ true = ap (λ (s : Slot). s .used) inside ∙ e in
+        let p : s ≡ standingOf (slotWith r i .path) = q ∙ ap (λ (s : Slot). standingOf (s .path)) (sym inside) in (
           rw (le-ltb 7 i h, u) (k .0 ∙ ap (λ (z : Standing). writtenOf z (length l)) p),
           rw (le-ltb 7 i h, u) (k .1 ∙ ap (λ (z : Standing). over (standingBytes z) l) p),
         )

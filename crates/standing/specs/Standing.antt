@@ -6,6 +6,7 @@ use mathlib.Core.Bool.{Bool, true, false, not, cond, _||_}
 use mathlib.Core.List.{List, [], _∷_, _++_, map}
 use lib.Dec.{leb, ltb}
 use lib.ListN.{length}
+use Rattle.base.specs.Refusals.{refusalNumber}
 use Rattle.base.specs.Seq.{flagOf}
 use Rattle.base.specs.declared.types.MaybeId.{MaybeId}
 use Rattle.base.specs.declared.types.MaybeId.the-variants as id
@@ -19,8 +20,8 @@ use Rattle.rtt.specs.Samples.{minRtt}
 use Rattle.rtt.specs.Spans.{baseRtt}
 use Rattle.live.specs.declared.types.Liveness.{Liveness}
 use Rattle.image.specs.Image.{etxBits}
-use Rattle.rules.specs.Step.{slotAt}
-use Rattle.rules.specs.declared.types.Record.{Record}
+use Rattle.rules.specs.Step.{slotWith}
+use Rattle.rules.specs.declared.types.Slot.{Slot}
 use Rattle.standing.specs.declared.types.Standing.{Standing}
 use Rattle.standing.specs.declared.types.Field.{Field}
 use Rattle.standing.specs.declared.types.Written.{Written}
@@ -101,6 +102,16 @@ standingBytes s = flat bytesIn (partsOf s)
 
 -- ---- what a writer says
 
+-- "For each case of an enum answer, a definition gives this paper's number and values.": 0 or the refusal number, and
+-- the count of bytes; "A refusal gives its number and value 0."
+abbrev pub writtenNumber : Written → ℕ
+writtenNumber (written.Count n) = 0
+writtenNumber (written.Refused why) = refusalNumber why
+
+abbrev pub writtenValue : Written → ℕ
+writtenValue (written.Count n) = n
+writtenValue (written.Refused why) = 0
+
 -- "16: fewer lent bytes than the standing needs"; "The count written is returned"
 abbrev pub fit : List ℕ → ℕ → Written
 fit bytes lent = cond (leb (length bytes) lent) (written.Count (length bytes)) (written.Refused refusal.Lent)
@@ -109,12 +120,12 @@ fit bytes lent = cond (leb (length bytes) lent) (written.Count (length bytes)) (
 unfoldable pub writtenOf : Standing → ℕ → Written
 writtenOf s lent = fit (standingBytes s) lent
 
--- of a slot: 1 above 7, 2 where it is empty, then 16
-unfoldable pub slotWritten : Record → ℕ → ℕ → Written
-slotWritten r i lent =
+-- of a slot of a record, by its slots: 1 above 7, 2 where it is empty, then 16
+unfoldable pub slotWritten : List Slot → ℕ → ℕ → Written
+slotWritten s i lent =
     cond (ltb 7 i) (written.Refused refusal.Slot)
-    (cond (slotAt r i .used) (writtenOf (standingOf (slotAt r i .path)) lent) (written.Refused refusal.Empty))
+    (cond (slotWith s i .used) (writtenOf (standingOf (slotWith s i .path)) lent) (written.Refused refusal.Empty))
 
 -- a refusal leaves the lent bytes as they are
-unfoldable pub slotOut : Record → ℕ → List ℕ → List ℕ
-slotOut r i l = cond (ltb 7 i || not (slotAt r i .used)) l (over (standingBytes (standingOf (slotAt r i .path))) l)
+unfoldable pub slotOut : List Slot → ℕ → List ℕ → List ℕ
+slotOut s i l = cond (ltb 7 i || not (slotWith s i .used)) l (over (standingBytes (standingOf (slotWith s i .path))) l)

@@ -96,8 +96,8 @@ pub fn write(s: Standing, out: &mut [u8]) -> Written
 
 // Writes the standing of a slot's path; 1 for a slot above 7, 2 for an empty one, then 16; a refusal writes nothing.
 pub fn standing(rec: Record, slot: u8, out: &mut [u8]) -> Written
-    ensures { λ r. ⌜ (r ≡ slotWritten rec slot (length (now (out .entry))))
-        × (now (out .exit) ≡ slotOut rec slot (now (out .entry))) ⌝ }
+    ensures { λ r. ⌜ (r ≡ slotWritten (rec .slots) slot (length (now (out .entry))))
+        × (now (out .exit) ≡ slotOut (rec .slots) slot (now (out .entry))) ⌝ }
 {
     if 7 < slot {
         return Written::Refused(Refusal::Slot);

@@ -11,15 +11,16 @@ use Rattle.base.specs.Limits.{isOverlong, isUndersize, isEndless}
 use Rattle.base.specs.declared.types.Refusal.{Refusal}
 use Rattle.base.specs.declared.types.Refusal.the-variants.{Empty, Held, Flag, Length, Duration}
 use Rattle.rules.specs.Rules.{refusals}
+use Rattle.rules.specs.declared.types.Settings.{Settings}
 use Rattle.rules.specs.declared.types.Event.{Event}
 use Rattle.turns.specs.Turns.{verdictOf}
 use Rattle.turns.specs.declared.refuse.Verdict.{Verdict}
 use Rattle.turns.specs.declared.refuse.Verdict.the-variants.{Pass, Refused}
 
-module _ (e : Event) (r : Verdict) where
+module _ (t : Settings) (e : Event) (r : Verdict) where
   -- the verdict on these tests is that on the fields of an event of kind k
   abbrev Tries : ℕ → List (Refusal × Bool) → Type 0
-  Tries k x = e .kind ≡ k → r ≡ verdictOf x → r ≡ verdictOf (drop 4 (refusals true e))
+  Tries k x = e .kind ≡ k → r ≡ verdictOf x → r ≡ verdictOf (drop 4 (refusals t true e))
 
   abbrev Sized : List (Refusal × Bool)
   Sized = (Length, isOverlong (e .len) || isUndersize (e .len)) ∷ []
@@ -30,32 +31,32 @@ module _ (e : Event) (r : Verdict) where
   pub tries-2 : Tries 2 ((Length, isOverlong (e .len)) ∷ [])
   tries-2 k q = q ∙ simp (or-false, k)
 
-  pub tries-3 : Tries 3 ((Length, isOverlong (e .acked)) ∷ [])
+  pub tries-3 : Tries 3 ((Length, isOverlong (e .acked)) ∷ (Duration, isEndless (t .gap)) ∷ [])
   tries-3 k q = q ∙ simp (or-false, k)
 
-  pub tries-4 : Tries 4 ((Flag, leb 2 (e .flags)) ∷ [])
+  pub tries-4 : Tries 4 ((Flag, leb 2 (e .flags)) ∷ (Duration, isEndless (t .cap)) ∷ [])
   tries-4 k q = q ∙ simp (or-false, k)
 
-  pub tries-5 : Tries 5 ((Duration, isEndless (e .span)) ∷ [])
+  pub tries-5 : Tries 5 ((Duration, isEndless (e .span) || (isEndless (t .window) || isEndless (t .horizon))) ∷ [])
   tries-5 k q = q ∙ simp (or-false, k)
 
   pub tries-6 : Tries 6 ((Flag, leb 2 (e .flags)) ∷ [])
-  tries-6 k q = q ∙ simp (or-false, k)
+  tries-6 k q = q ∙ simp k
 
   pub tries-7 : Tries 7 Sized
   tries-7 k q = q ∙ simp (or-false, k)
 
-  pub tries-9 : Tries 9 ((Duration, isEndless (e .span)) ∷ [])
+  pub tries-9 : Tries 9 ((Duration, isEndless (e .span) || isEndless (t .gap)) ∷ [])
   tries-9 k q = q ∙ simp (or-false, k)
 
   pub tries-10 : Tries 10 ((Length, isOverlong (e .len)) ∷ [])
   tries-10 k q = q ∙ simp (or-false, k)
 
 -- a kind with no field that is tried
-pub tries-none : (e : Event) → eqb (e .kind) 1 ≡ false → eqb (e .kind) 2 ≡ false → eqb (e .kind) 3 ≡ false
+pub tries-none : (t : Settings) (e : Event) → eqb (e .kind) 1 ≡ false → eqb (e .kind) 2 ≡ false → eqb (e .kind) 3 ≡ false
     → eqb (e .kind) 4 ≡ false → eqb (e .kind) 5 ≡ false → eqb (e .kind) 6 ≡ false → eqb (e .kind) 7 ≡ false
-    → eqb (e .kind) 9 ≡ false → eqb (e .kind) 10 ≡ false → Pass ≡ verdictOf (drop 4 (refusals true e))
-tries-none e a b c d f g h i j = rw (a, b, c, d, f, g, h, i, j)
+    → eqb (e .kind) 9 ≡ false → eqb (e .kind) 10 ≡ false → Pass ≡ verdictOf (drop 4 (refusals t true e))
+tries-none t e a b c d f g h i j = rw (a, b, c, d, f, g, h, i, j)
 
 -- no verdict is both
 isPass : Verdict → Bool
@@ -79,13 +80,13 @@ verdict-back (x ∷ l) m h =
     on-flag (x .1) (λ q. absurd (pass-refuses (sym (rw q at h)))) (λ q. rw q (verdict-back l m (rw q at h)))
 
 -- an event of a kind that is one, on a slot that is one: by the slot's two tests, then by the fields
-module _ (used : Bool) (e : Event) {v : Verdict} (k : (ltb (e .kind) 1 || ltb 15 (e .kind)) ≡ false) (s : ltb 7 (e .slot) ≡ false)
+module _ (t : Settings) (used : Bool) (e : Event) {v : Verdict} (k : (ltb (e .kind) 1 || ltb 15 (e .kind)) ≡ false) (s : ltb 7 (e .slot) ≡ false)
     (w : v ≡ verdictOf ((Empty, not (eqb (e .kind) 1) && not used) ∷ (Held, eqb (e .kind) 1 && used) ∷ [])) where
-  front : v ≡ verdictOf (take 4 (refusals used e))
+  front : v ≡ verdictOf (take 4 (refusals t used e))
   front = w ∙ sym (rw (k, s))
 
-  pub refused-slot : {why : Refusal} → v ≡ Refused why → Refused why ≡ verdictOf (refusals used e)
-  refused-slot q = sym (verdict-front (take 4 (refusals used e)) (drop 4 (refusals used e)) (sym front ∙ q))
+  pub refused-slot : {why : Refusal} → v ≡ Refused why → Refused why ≡ verdictOf (refusals t used e)
+  refused-slot q = sym (verdict-front (take 4 (refusals t used e)) (drop 4 (refusals t used e)) (sym front ∙ q))
 
-  pub passed-slot : {r : Verdict} → v ≡ Pass → r ≡ verdictOf (drop 4 (refusals true e)) → r ≡ verdictOf (refusals used e)
-  passed-slot q f = f ∙ sym (verdict-back (take 4 (refusals used e)) (drop 4 (refusals used e)) (sym front ∙ q))
+  pub passed-slot : {r : Verdict} → v ≡ Pass → r ≡ verdictOf (drop 4 (refusals t true e)) → r ≡ verdictOf (refusals t used e)
+  passed-slot q f = f ∙ sym (verdict-back (take 4 (refusals t used e)) (drop 4 (refusals t used e)) (sym front ∙ q))

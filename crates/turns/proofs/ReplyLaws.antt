@@ -114,7 +114,7 @@ searched-unchosen a s e =
 pub slot-unchosen : (t : Settings) (s : Slot) (e : Event) → Unchosen (onSlot t s e)
 unfolding onSlot
 slot-unchosen t s e =
-    refused-unchosen (refusals (s .used) e) s _
+    refused-unchosen (refusals t (s .used) e) s _
     (work-unchosen (works t s e) e _
     (refl, (path-unchosen (sendOf (s .path) (e .now) (e .span) (e .len) (e .id) .answer), (answered-unchosen (seekAnswerOf (s .path) (e .id) (t .gap)) s e, (refl, (refl, (refl, (refl, (searched-unchosen (seekSizeOf (s .path) (s .label .full) (e .now)) s e, (path-unchosen (seekJudgeOf (s .path) (e .now) (e .span) (t .gap) .answer), (refl, (refl, (refl, (refl, (refl, tt))))))))))))))
     refl)

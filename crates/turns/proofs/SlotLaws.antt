@@ -41,11 +41,11 @@ never-pass false false true h = pass-refuses (sym h)
 never-pass false false false h = pass-refuses (sym h)
 
 -- an open that no refusal stops has a length of at most 65,535
-open-len : (used : Bool) (e : Event) → e .kind ≡ 1 → verdictOf (refusals used e) ≡ Pass → e .len ≤ 65535
-open-len used e k v =
+open-len : (t : Settings) (used : Bool) (e : Event) → e .kind ≡ 1 → verdictOf (refusals t used e) ≡ Pass → e .len ≤ 65535
+open-len t used e k v =
     on-order 65535 (e .len)
     (λ h.
-    let q : verdictOf (refusals used e)
+    let q : verdictOf (refusals t used e)
     ≡ cond (ltb 7 (e .slot)) (Refused refusal.Slot)
     (cond used (Refused refusal.Held)
     (cond (leb 128 (e .flags) || false) (Refused refusal.Flag) (Refused refusal.Length))) =
@@ -54,20 +54,20 @@ open-len used e k v =
     (λ h. h)
 
 module _ (t : Settings) (s : Slot) (e : Event) where
-  pub slot-refused : {why : Refusal} {r : Turn} {v : Verdict} → v ≡ verdictOf (refusals (s .used) e) → v ≡ Refused why
+  pub slot-refused : {why : Refusal} {r : Turn} {v : Verdict} → v ≡ verdictOf (refusals t (s .used) e) → v ≡ Refused why
       → r ≡ turn s (s .path) (reply.Refused why) → r ≡ onSlot t s e
   unfolding onSlot byVerdict
-  slot-refused a b q = q ∙ sym (slot-by (refusals (s .used) e) s _ ∙ rw (sym a ∙ b))
+  slot-refused a b q = q ∙ sym (slot-by (refusals t (s .used) e) s _ ∙ rw (sym a ∙ b))
 
-  pub slot-open : {r : Slot} {v : Verdict} → v ≡ verdictOf (refusals (s .used) e) → v ≡ Pass → e .kind ≡ 1
+  pub slot-open : {r : Slot} {v : Verdict} → v ≡ verdictOf (refusals t (s .used) e) → v ≡ Pass → e .kind ≡ 1
       → r ≡ openedAs e (e .len % 65536) → record { slot = r; reply = reply.Nothing } ≡ onSlot t s e
   unfolding onSlot byVerdict
   slot-open a b k q =
-      let m : e .len ≤ 65535 = open-len (s .used) e k (sym a ∙ b) in
+      let m : e .len ≤ 65535 = open-len t (s .used) e k (sym a ∙ b) in
       let z : e .len % 65536 ≡ e .len = omega arith in
-      rw (q, z) (sym (slot-by (refusals (s .used) e) s _ ∙ rw (sym a ∙ b, k)))
+      rw (q, z) (sym (slot-by (refusals t (s .used) e) s _ ∙ rw (sym a ∙ b, k)))
 
-  pub slot-work : {r : Turn} {v : Verdict} → v ≡ verdictOf (refusals (s .used) e) → v ≡ Pass → eqb (e .kind) 1 ≡ false
+  pub slot-work : {r : Turn} {v : Verdict} → v ≡ verdictOf (refusals t (s .used) e) → v ≡ Pass → eqb (e .kind) 1 ≡ false
       → r ≡ workBy t s e → r ≡ onSlot t s e
   unfolding onSlot byVerdict workBy
-  slot-work a b k q = q ∙ sym (slot-by (refusals (s .used) e) s _ ∙ rw (sym a ∙ b, k))
+  slot-work a b k q = q ∙ sym (slot-by (refusals t (s .used) e) s _ ∙ rw (sym a ∙ b, k))

@@ -13,6 +13,7 @@ use base::limits::MAX_LEN;
 use base::limits::MIN_LEN;
 use base::types::Refusal;
 use rules::types::Event;
+use rules::types::Settings;
 
 // The first refusal of an event, or none.
 pub enum Verdict {
@@ -70,20 +71,61 @@ fn span_refusal(span: u64) -> Verdict
     Verdict::Pass
 }
 
-// The first of 4, 5 and 6: of the fields that the event's kind has, so that each kind tries its own alone.
-fn field_refusal(e: Event) -> Verdict
-    ensures { λ r. ⌜ r ≡ verdictOf (drop 4 (refusals true e)) ⌝ }
+// 5, then 6, of an answer: the acknowledged length and the gap.
+fn answer_refusal(acked: u32, gap: u64) -> Verdict
+    ensures { λ r. ⌜ r ≡ verdictOf ((Length, isOverlong acked) ∷ (Duration, isEndless gap) ∷ []) ⌝ }
+{
+    if MAX_LEN < acked {
+        return Verdict::Refused(Refusal::Length);
+    }
+    span_refusal(gap)
+}
+
+// 4, then 6, of a poll: the flags and the cap.
+fn poll_refusal(flags: u8, cap: u64) -> Verdict
+    ensures { λ r. ⌜ r ≡ verdictOf ((Flag, leb 2 flags) ∷ (Duration, isEndless cap) ∷ []) ⌝ }
+{
+    if 2 <= flags {
+        return Verdict::Refused(Refusal::Flag);
+    }
+    span_refusal(cap)
+}
+
+// 6 of a judge: its timeout and the gap, as one test.
+fn judge_refusal(span: u64, gap: u64) -> Verdict
+    ensures { λ r. ⌜ r ≡ verdictOf ((Duration, isEndless span || isEndless gap) ∷ []) ⌝ }
+{
+    if (DURATION_END <= span) | (DURATION_END <= gap) {
+        return Verdict::Refused(Refusal::Duration);
+    }
+    Verdict::Pass
+}
+
+// 6 of a sample: its RTT, the window and the horizon, as one test.
+fn sample_refusal(span: u64, window: u64, horizon: u64) -> Verdict
+    ensures { λ r. ⌜ r ≡ verdictOf ((Duration, isEndless span || (isEndless window || isEndless horizon)) ∷ []) ⌝ }
+{
+    if (DURATION_END <= span) | ((DURATION_END <= window) | (DURATION_END <= horizon)) {
+        return Verdict::Refused(Refusal::Duration);
+    }
+    Verdict::Pass
+}
+
+// The first of 4, 5 and 6: of the fields that the event's kind has and the settings that it reads, so that each kind
+// tries its own alone.
+fn field_refusal(t: Settings, e: Event) -> Verdict
+    ensures { λ r. ⌜ r ≡ verdictOf (drop 4 (refusals t true e)) ⌝ }
 {
     let k = e.kind;
     match k {
         1 => open_refusal(e.flags, e.len),
         2 => length_refusal(e.len),
-        3 => length_refusal(e.acked),
-        4 => flag_refusal(e.flags, 2),
-        5 => span_refusal(e.span),
+        3 => answer_refusal(e.acked, t.gap),
+        4 => poll_refusal(e.flags, t.cap),
+        5 => sample_refusal(e.span, t.window, t.horizon),
         6 => flag_refusal(e.flags, 2),
         7 => size_refusal(e.len),
-        9 => span_refusal(e.span),
+        9 => judge_refusal(e.span, t.gap),
         10 => length_refusal(e.len),
         _ => Verdict::Pass,
     }
@@ -106,8 +148,8 @@ fn slot_refusal(used: bool, k: u8) -> Verdict
 }
 
 // The first refusal whose condition holds, of an event on a slot that is held or empty: 15 before 1, then by number.
-pub fn first_refusal(used: bool, e: Event) -> Verdict
-    ensures { λ r. ⌜ r ≡ verdictOf (refusals used e) ⌝ }
+pub fn first_refusal(t: Settings, used: bool, e: Event) -> Verdict
+    ensures { λ r. ⌜ r ≡ verdictOf (refusals t used e) ⌝ }
 {
     let k = e.kind;
     if (k < 1) | (15 < k) {
@@ -119,6 +161,6 @@ pub fn first_refusal(used: bool, e: Event) -> Verdict
     let v = slot_refusal(used, k);
     match v {
         Verdict::Refused(why) => Verdict::Refused(why),
-        Verdict::Pass => field_refusal(e),
+        Verdict::Pass => field_refusal(t, e),
     }
 }

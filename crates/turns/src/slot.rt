@@ -45,7 +45,7 @@ fn work(t: Settings, s: Slot, e: Event) -> Turn
 pub fn on_slot(t: Settings, s: Slot, e: Event) -> Turn
     ensures { λ r. ⌜ r ≡ onSlot t s e ⌝ }
 {
-    let v = first_refusal(s.used, e);
+    let v = first_refusal(t, s.used, e);
     match v {
         Verdict::Refused(why) => {
             let path = s.path;

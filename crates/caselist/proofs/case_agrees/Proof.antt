@@ -20,44 +20,44 @@ add-p-2 c = let h = file-in (c .before .before .before .before .args .s .now) (c
 get-requires-2 : tie.Need-get-requires-2
 get-requires-2 c κs = search needs
 
-add-file-agrees : tie.Need-add-file-agrees
-add-file-agrees c = let h = both-in (c .before .before .before .before .before .args .s .now) (c .before .before .before .before .before .args .at) (c .before .get .ensures .0) (c .get2 .ensures .0) (c .before .before .before .is-whole .ensures) (c .before .before .if1 .taken) in search needs
+add-parts-agree : tie.Need-add-parts-agree
+add-parts-agree c = let h = both-in (c .before .before .before .before .before .args .s .now) (c .before .before .before .before .before .args .at) (c .before .get .ensures .0) (c .get2 .ensures .0) (c .before .before .before .is-whole .ensures) (c .before .before .if1 .taken) in search needs
 
-sub-file-agrees : tie.Need-sub-file-agrees
-sub-file-agrees c = search needs
+sub-parts-agree : tie.Need-sub-parts-agree
+sub-parts-agree c = search needs
 
-part-file-agrees-start : tie.Need-part-file-agrees-start
-part-file-agrees-start c = search needs
+part-parts-agree-start : tie.Need-part-parts-agree-start
+part-parts-agree-start c = search needs
 
-part-file-agrees-end : tie.Need-part-file-agrees-end
-part-file-agrees-end c = let h = both-in (c .before .before .before .before .before .args .s .now) (c .before .before .before .before .before .args .at) (c .before .get .ensures .0) (c .get2 .ensures .0) (c .before .before .before .is-whole .ensures) (c .before .before .if1 .taken) in search needs
+part-parts-agree-end : tie.Need-part-parts-agree-end
+part-parts-agree-end c = let h = both-in (c .before .before .before .before .before .args .s .now) (c .before .before .before .before .before .args .at) (c .before .get .ensures .0) (c .get2 .ensures .0) (c .before .before .before .is-whole .ensures) (c .before .before .if1 .taken) in search needs
 
-add-file-agrees-2 : tie.Need-add-file-agrees-2
-add-file-agrees-2 c = let h = both-in (c .before .before .before .before .before .before .args .s .now) (c .before .before .before .before .before .before .args .at) (c .before .before .get .ensures .0) (c .before .get2 .ensures .0) (c .before .before .before .before .is-whole .ensures) (c .before .before .before .if1 .taken) in search needs
+add-parts-agree-2 : tie.Need-add-parts-agree-2
+add-parts-agree-2 c = let h = both-in (c .before .before .before .before .before .before .args .s .now) (c .before .before .before .before .before .before .args .at) (c .before .before .get .ensures .0) (c .before .get2 .ensures .0) (c .before .before .before .before .is-whole .ensures) (c .before .before .before .if1 .taken) in search needs
 
-add-file-agrees-3 : tie.Need-add-file-agrees-3
-add-file-agrees-3 c = let h = both-in (c .before .before .before .before .before .before .args .s .now) (c .before .before .before .before .before .before .args .at) (c .before .before .get .ensures .0) (c .before .get2 .ensures .0) (c .before .before .before .before .is-whole .ensures) (c .before .before .before .if1 .taken) in search needs
+add-parts-agree-3 : tie.Need-add-parts-agree-3
+add-parts-agree-3 c = let h = both-in (c .before .before .before .before .before .before .args .s .now) (c .before .before .before .before .before .before .args .at) (c .before .before .get .ensures .0) (c .before .get2 .ensures .0) (c .before .before .before .before .is-whole .ensures) (c .before .before .before .if1 .taken) in search needs
 
-add-file-agrees-4 : tie.Need-add-file-agrees-4
-add-file-agrees-4 c = let h = both-in (c .before .before .before .before .before .before .args .s .now) (c .before .before .before .before .before .before .args .at) (c .before .before .get .ensures .0) (c .before .get2 .ensures .0) (c .before .before .before .before .is-whole .ensures) (c .before .before .before .if1 .taken) in search needs
+add-parts-agree-4 : tie.Need-add-parts-agree-4
+add-parts-agree-4 c = let h = both-in (c .before .before .before .before .before .before .args .s .now) (c .before .before .before .before .before .before .args .at) (c .before .before .get .ensures .0) (c .before .get2 .ensures .0) (c .before .before .before .before .is-whole .ensures) (c .before .before .before .if1 .taken) in search needs
 
-sub-file-agrees-2 : tie.Need-sub-file-agrees-2
-sub-file-agrees-2 c = search needs
+sub-parts-agree-2 : tie.Need-sub-parts-agree-2
+sub-parts-agree-2 c = search needs
 
-part-file-agrees-start-2 : tie.Need-part-file-agrees-start-2
-part-file-agrees-start-2 c = search needs
+part-parts-agree-start-2 : tie.Need-part-parts-agree-start-2
+part-parts-agree-start-2 c = search needs
 
-part-file-agrees-end-2 : tie.Need-part-file-agrees-end-2
-part-file-agrees-end-2 c = let h = both-in (c .before .before .before .before .before .before .args .s .now) (c .before .before .before .before .before .before .args .at) (c .before .before .get .ensures .0) (c .before .get2 .ensures .0) (c .before .before .before .before .is-whole .ensures) (c .before .before .before .if1 .taken) in search needs
+part-parts-agree-end-2 : tie.Need-part-parts-agree-end-2
+part-parts-agree-end-2 c = let h = both-in (c .before .before .before .before .before .before .args .s .now) (c .before .before .before .before .before .before .args .at) (c .before .before .get .ensures .0) (c .before .get2 .ensures .0) (c .before .before .before .before .is-whole .ensures) (c .before .before .before .if1 .taken) in search needs
 
-file-agrees-requires : tie.Need-file-agrees-requires
-file-agrees-requires c κs = search needs
+parts-agree-requires : tie.Need-parts-agree-requires
+parts-agree-requires c κs = search needs
 
 returns : tie.Need-returns
-returns c = case-told (c .before .before .before .before .before .before .before .before .args .s .now) (c .before .before .before .before .before .before .before .before .args .at) (c .before .before .before .before .get .ensures .0) (c .before .before .before .get2 .ensures .0) (c .before .before .before .before .before .before .is-whole .ensures) (c .before .before .before .before .before .if1 .taken) (c .file-agrees .ensures)
+returns c = case-told (c .before .before .before .before .before .before .before .before .args .s .now) (c .before .before .before .before .before .before .before .before .args .at) (c .before .before .before .before .get .ensures .0) (c .before .before .before .get2 .ensures .0) (c .before .before .before .before .before .before .is-whole .ensures) (c .before .before .before .before .before .if1 .taken) (c .before .before .before .before .before .before .before .before .args .listed) (c .parts-agree .ensures)
 
 returns-2 : tie.Need-returns-2
-returns-2 c = case-cut (c .before .before .before .args .s .now) (c .before .before .before .args .at) (c .before .is-whole .ensures) (c .if1 .left)
+returns-2 c = case-cut (c .before .before .before .args .listed) (c .before .before .before .args .s .now) (c .before .before .before .args .at) (c .before .is-whole .ensures) (c .if1 .left)
 
 pub case-agrees-spec : {M : Type 1} → statement M
 case-agrees-spec =
@@ -68,16 +68,16 @@ case-agrees-spec =
     add-p
     add-p-2
     get-requires-2
-    add-file-agrees
-    sub-file-agrees
-    part-file-agrees-start
-    part-file-agrees-end
-    add-file-agrees-2
-    add-file-agrees-3
-    add-file-agrees-4
-    sub-file-agrees-2
-    part-file-agrees-start-2
-    part-file-agrees-end-2
-    file-agrees-requires
+    add-parts-agree
+    sub-parts-agree
+    part-parts-agree-start
+    part-parts-agree-end
+    add-parts-agree-2
+    add-parts-agree-3
+    add-parts-agree-4
+    sub-parts-agree-2
+    part-parts-agree-start-2
+    part-parts-agree-end-2
+    parts-agree-requires
     returns
     returns-2)

@@ -34,8 +34,8 @@ returns c =
     let from = c .before .before .before .before .before .before .before .lesser2 .ensures in
     let a = c .before .before .before .before .before .before .before .before .before .before .before .args in
     let s = sessionIn (a .t .now) (a .rec .now) (a .mark) in (
-      call-is s (a .p) (a .n) (a .buf .now) (a .out .now) to from d,
-      call-fits s (a .p) (a .n) (a .buf .now) (a .out .now) to from d,
+      call-is s (a .p) (a .n) (a .buf .now) to from d,
+      call-fits s (a .p) (a .n) (a .buf .now) to from d,
     )
 
 pub call-spec : {M : Type 1} → statement M

@@ -41,7 +41,7 @@ same-length : tie.Need-same-length
 same-length c = search needs
 
 returns-3 : tie.Need-returns-3
-returns-3 c = let a = c .before .before .before .before .before .before .before .before .before .before .before .before .before .before .before .before .before .before .args in let t = a .t .now in let w = a .rec .now in let s = sessionIn t w (a .mark) in let l = a .s .now in let o = a .out .now in let y = sym (allowed-by l (c .before .before .before .before .before .before .before .before .before .settings-from .ensures) (c .before .before .before .before .before .before .before .before .new .ensures .0) (c .before .before .before .before .before .before .before .number-of .ensures)) ∙ eq-eqb _ _ (c .before .before .before .before .before .before .if3 .taken) in step-fresh o s l (c .before .before .before .before .before .before .before .before .before .before .before .before .before .before .before .if1 .left) (c .before .before .before .before .before .before .before .before .before .before .before .before .before .enum-told .given .1) (c .before .before .before .before .before .before .before .before .before .before .before .before .if2 .left) y (fresh-by l t w (c .before .before .before .before .before .before .before .before .before .settings-from .ensures) y (c .before .before .before .before .before .before .before .before .new .ensures .1) (c .before .before .before .before .before .before .before .before .new .ensures .2)) (c .before .before .run .ensures)
+returns-3 c = let a = c .before .before .before .before .before .before .before .before .before .before .before .before .before .before .before .before .before .before .args in let t = a .t .now in let w = a .rec .now in let s = sessionIn t w (a .mark) in let l = a .s .now in let o = a .out .now in let y = sym (allowed-by l (c .before .before .before .before .before .before .before .before .before .settings-from .ensures) (c .before .before .before .before .before .before .before .before .new .ensures .0) (c .before .before .before .before .before .before .before .number-of .ensures)) ∙ eq-eqb _ _ (c .before .before .before .before .before .before .if3 .taken) in step-fresh t w o s l (c .before .before .before .before .before .before .before .before .before .before .before .before .before .before .before .if1 .left) (c .before .before .before .before .before .before .before .before .before .before .before .before .before .enum-told .given .1) (c .before .before .before .before .before .before .before .before .before .before .before .before .if2 .left) y (fresh-by l t w (c .before .before .before .before .before .before .before .before .before .settings-from .ensures) y (c .before .before .before .before .before .before .before .before .new .ensures .1) (c .before .before .before .before .before .before .before .before .new .ensures .2)) (c .before .before .run .ensures)
 
 put-line-requires : tie.Need-put-line-requires
 put-line-requires c κs = search needs
@@ -68,7 +68,7 @@ same-length-3 : tie.Need-same-length-3
 same-length-3 c = search needs
 
 returns-5 : tie.Need-returns-5
-returns-5 c = let a = c .before .before .before .before .before .before .before .before .before .before .before .args in let t = a .t .now in let w = a .rec .now in let s = sessionIn t w (a .mark) in let l = a .s .now in let o = a .out .now in step-as _ s l o (ran-in o s l (c .before .before .before .before .before .before .before .before .if1 .left) (c .before .before .before .before .before .before .enum-told2 .given .1)) (c .before .before .run2 .ensures .0) (c .before .before .run2 .ensures .1)
+returns-5 c = let a = c .before .before .before .before .before .before .before .before .before .before .before .args in let t = a .t .now in let w = a .rec .now in let s = sessionIn t w (a .mark) in let l = a .s .now in let o = a .out .now in step-as _ s l (ran-in o s l (c .before .before .before .before .before .before .before .before .if1 .left) (c .before .before .before .before .before .before .enum-told2 .given .1)) (c .before .before .run2 .ensures)
 
 returns-6 : tie.Need-returns-6
 returns-6 c = let a = c .before .before .before .before .before .before .args in let t = a .t .now in let w = a .rec .now in let s = sessionIn t w (a .mark) in let l = a .s .now in let o = a .out .now in step-stay _ t w (a .mark) l o false (ran-in o s l (c .before .before .before .if1 .left) (c .before .enum-told3 .given .1)) (c .stay3 .ensures)

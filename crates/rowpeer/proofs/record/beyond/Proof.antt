@@ -1,10 +1,15 @@
 -- `rowpeer::record::beyond` meets its contract.
 -- Assumes nothing.
-use mathlib.Core.Path.{ap, sym, _∙_}
+use mathlib.Core.Path.{refl, ap, sym, _∙_}
+use mathlib.Core.Bool.{false}
+use Rattle.rowturns.proofs.TurnLaws.{tried}
 use Rattle.rowpeer.specs.Record.{beyondOf}
 use borrow.Author.Needs.{needs}
 use Rattle.rowpeer.proofs.record.beyond.Statement.{statement}
 use Rattle.rowpeer.proofs.record.beyond.Tie as tie
+
+settings-in-requires : tie.Need-settings-in-requires
+settings-in-requires c κs = search needs
 
 first-refusal-requires : tie.Need-first-refusal-requires
 first-refusal-requires c κs = search needs
@@ -16,10 +21,14 @@ enum-told : tie.Need-enum-told
 enum-told c = search needs
 
 returns : tie.Need-returns
-returns c = ap beyondOf (sym (c .before .v .given .1) ∙ c .before .before .before .first-refusal .ensures)
+returns c =
+    let f = c .before .before .before in
+    ap beyondOf (sym (c .before .v .given .1) ∙ tried (f .before .before .before .args .e) {u = false} (f .first-refusal .ensures) (f .before .settings-in .ensures) refl)
 
 returns-2 : tie.Need-returns-2
-returns-2 c = ap beyondOf (sym (c .enum-told .given .1) ∙ c .before .before .first-refusal .ensures)
+returns-2 c =
+    let f = c .before .before in
+    ap beyondOf (sym (c .enum-told .given .1) ∙ tried (f .before .before .before .args .e) {u = false} (f .first-refusal .ensures) (f .before .settings-in .ensures) refl)
 
 pub beyond-spec : {M : Type 1} → statement M
-beyond-spec = tie.close (tie.spec first-refusal-requires enum-known-v enum-told returns returns-2)
+beyond-spec = tie.close (tie.spec settings-in-requires first-refusal-requires enum-known-v enum-told returns returns-2)

@@ -1,13 +1,12 @@
 -- `rowpeer::standings::standing` meets its contract.
 -- Assumes nothing.
 use mathlib.Core.Path.{sym, ap, _∙_}
-use mathlib.Core.List.{[]}
+use mathlib.Core.List.{[], map}
 use lib.ListN.{length-map, List·getD-map}
 use Rattle.rules.specs.declared.types.Slot.{Slot}
 use Rattle.standing.proofs.Writing.{slot-above, slot-told, slot-empty}
 use Rattle.standing.specs.Standing.{standingOf}
 use Rattle.rows.specs.View.{slotIn}
-use Rattle.rowpeer.specs.Record.{recordIn}
 use borrow.Author.Needs.{needs}
 use Rattle.rowpeer.proofs.standings.standing.Statement.{statement}
 use Rattle.rowpeer.proofs.standings.standing.Tie as tie
@@ -16,7 +15,7 @@ slots-requires : tie.Need-slots-requires
 slots-requires c κs = search needs
 
 returns : tie.Need-returns
-returns c = slot-above (recordIn [] (c .before .before .before .args .rec .now)) _ (c .before .before .before .args .out .now) (c .if1 .taken)
+returns c = slot-above (map slotIn (c .before .before .before .args .rec .now)) _ (c .before .before .before .args .out .now) (c .if1 .taken)
 
 mul-used : tie.Need-mul-used
 mul-used c = search needs
@@ -43,10 +42,10 @@ same-length : tie.Need-same-length
 same-length c = search needs
 
 returns-2 : tie.Need-returns-2
-returns-2 c = slot-told (recordIn [] (c .before .before .before .before .before .before .before .before .before .before .before .before .args .rec .now)) _ (c .before .before .before .before .before .before .before .before .before .before .before .before .args .out .now) (c .before .before .before .before .before .before .before .before .before .if1 .left) (length-map (c .before .before .before .before .before .before .before .before .before .before .before .before .args .rec .now) slotIn ∙ c .before .before .before .before .before .before .before .before .before .before .slots .ensures .1) (slotIn []) (ap (λ (s : Slot). s .used) (List·getD-map slotIn (c .before .before .before .before .before .before .before .before .before .before .before .before .args .rec .now) _ []) ∙ sym (c .before .before .before .before .before .before .before .used .ensures) ∙ c .before .before .before .before .before .before .if2 .taken) (c .before .before .before .before .told .ensures ∙ sym (ap (λ (s : Slot). standingOf (s .path)) (List·getD-map slotIn (c .before .before .before .before .before .before .before .before .before .before .before .before .args .rec .now) _ []))) (c .before .before .write .ensures)
+returns-2 c = slot-told (map slotIn (c .before .before .before .before .before .before .before .before .before .before .before .before .args .rec .now)) _ (c .before .before .before .before .before .before .before .before .before .before .before .before .args .out .now) (c .before .before .before .before .before .before .before .before .before .if1 .left) (length-map (c .before .before .before .before .before .before .before .before .before .before .before .before .args .rec .now) slotIn ∙ c .before .before .before .before .before .before .before .before .before .before .slots .ensures .1) (slotIn []) (ap (λ (s : Slot). s .used) (List·getD-map slotIn (c .before .before .before .before .before .before .before .before .before .before .before .before .args .rec .now) _ []) ∙ sym (c .before .before .before .before .before .before .before .used .ensures) ∙ c .before .before .before .before .before .before .if2 .taken) (c .before .before .before .before .told .ensures ∙ sym (ap (λ (s : Slot). standingOf (s .path)) (List·getD-map slotIn (c .before .before .before .before .before .before .before .before .before .before .before .before .args .rec .now) _ []))) (c .before .before .write .ensures)
 
 returns-3 : tie.Need-returns-3
-returns-3 c = slot-empty (recordIn [] (c .before .before .before .before .before .before .args .rec .now)) _ (c .before .before .before .before .before .before .args .out .now) (c .before .before .before .if1 .left) (length-map (c .before .before .before .before .before .before .args .rec .now) slotIn ∙ c .before .before .before .before .slots .ensures .1) (slotIn []) (ap (λ (s : Slot). s .used) (List·getD-map slotIn (c .before .before .before .before .before .before .args .rec .now) _ []) ∙ sym (c .before .used .ensures) ∙ c .if2 .left)
+returns-3 c = slot-empty (map slotIn (c .before .before .before .before .before .before .args .rec .now)) _ (c .before .before .before .before .before .before .args .out .now) (c .before .before .before .if1 .left) (length-map (c .before .before .before .before .before .before .args .rec .now) slotIn ∙ c .before .before .before .before .slots .ensures .1) (slotIn []) (ap (λ (s : Slot). s .used) (List·getD-map slotIn (c .before .before .before .before .before .before .args .rec .now) _ []) ∙ sym (c .before .used .ensures) ∙ c .if2 .left)
 
 pub standing-spec : {M : Type 1} → statement M
 standing-spec =

@@ -25,9 +25,6 @@ loop-holds c = scan-start (c .before .before .args .cap) (c .before .before .arg
 first-passed-requires : tie.Need-first-passed-requires Inv-loop μ-loop
 first-passed-requires c κs = search needs
 
-returns : tie.Need-returns Inv-loop μ-loop
-returns c = scan-none (c .before .before .before .loop .inv) (c .before .first-passed .ensures) (c .if1 .taken)
-
 sent-requires : tie.Need-sent-requires Inv-loop μ-loop
 sent-requires c κs = search needs
 
@@ -36,9 +33,6 @@ defer-requires c κs = search needs
 
 enum-told : tie.Need-enum-told Inv-loop μ-loop
 enum-told c = search needs
-
-returns-2 : tie.Need-returns-2 Inv-loop μ-loop
-returns-2 c = scan-stop (c .before .before .before .before .before .before .before .before .loop .inv) (c .before .before .before .before .before .before .first-passed .ensures) (c .before .before .before .before .before .if1 .left) (c .before .before .before .sent .ensures) (sym (c .before .before .defer .ensures) ∙ c .enum-told .given .1)
 
 enum-known-wait : tie.Need-enum-known-wait Inv-loop μ-loop
 enum-known-wait c = search needs
@@ -52,6 +46,12 @@ loop-less c = scan-less (c .before .before .before .before .before .before .befo
 loop-again : tie.Need-loop-again Inv-loop μ-loop
 loop-again c = scan-next (c .before .before .before .before .before .before .before .before .before .before .before .loop .inv) (c .before .before .before .before .before .before .before .before .before .first-passed .ensures) (c .before .before .before .before .before .before .before .before .if1 .left) (c .before .before .before .before .before .before .sent .ensures) _ (sym (c .before .before .before .before .before .defer .ensures) ∙ c .before .before .before .wait .given .1) (c .set-sent .ensures)
 
+returns : tie.Need-returns Inv-loop μ-loop
+returns c = scan-none (c .before .before .before .loop .inv) (c .before .first-passed .ensures) (c .if1 .taken)
+
+returns-2 : tie.Need-returns-2 Inv-loop μ-loop
+returns-2 c = scan-stop (c .before .before .before .before .before .before .before .before .loop .inv) (c .before .before .before .before .before .before .first-passed .ensures) (c .before .before .before .before .before .if1 .left) (c .before .before .before .sent .ensures) (sym (c .before .before .defer .ensures) ∙ c .enum-told .given .1)
+
 pub scan-spec : {M : Type 1} → statement M
 scan-spec =
     tie.close
@@ -61,12 +61,12 @@ scan-spec =
     rows-requires
     loop-holds
     first-passed-requires
-    returns
     sent-requires
     defer-requires
     enum-told
-    returns-2
     enum-known-wait
     set-sent-requires
     loop-less
-    loop-again)
+    loop-again
+    returns
+    returns-2)

@@ -52,9 +52,6 @@ answer-requires c κs = search needs
 of-matching-requires : tie.Need-of-matching-requires
 of-matching-requires c κs = search needs
 
-no-kind-requires : tie.Need-no-kind-requires
-no-kind-requires c κs = search needs
-
 returns : tie.Need-returns
 unfolding countCall
 returns c = rw (key 43 (c .before .before .match .keys1), c .tell .ensures, c .before .frames .ensures)
@@ -77,11 +74,7 @@ returns-5 c = rw (key 43 (c .before .before .match .keys5), key 44 (c .before .b
 
 returns-6 : tie.Need-returns-6
 unfolding countCall
-returns-6 c = rw (key 43 (c .before .before .before .match .keys6), key 44 (c .before .before .before .match .keys6), key 45 (c .before .before .before .match .keys6), key 46 (c .before .before .before .match .keys6), key 47 (c .before .before .before .match .keys6), key 48 (c .before .before .before .match .keys6), c .of-matching .ensures, c .before .answer .ensures, c .before .before .low32 .ensures)
-
-returns-7 : tie.Need-returns-7
-unfolding countCall
-returns-7 c = rw (ne-eqb _ _ (c .before .match .rest .0 .0 .0 .0 .0 .1), ne-eqb _ _ (c .before .match .rest .0 .0 .0 .0 .1), ne-eqb _ _ (c .before .match .rest .0 .0 .0 .1), ne-eqb _ _ (c .before .match .rest .0 .0 .1), ne-eqb _ _ (c .before .match .rest .0 .1), ne-eqb _ _ (c .before .match .rest .1), c .no-kind .ensures)
+returns-6 c = rw (ne-eqb _ _ (c .before .before .before .match .rest .0 .0 .0 .0 .1), ne-eqb _ _ (c .before .before .before .match .rest .0 .0 .0 .1), ne-eqb _ _ (c .before .before .before .match .rest .0 .0 .1), ne-eqb _ _ (c .before .before .before .match .rest .0 .1), ne-eqb _ _ (c .before .before .before .match .rest .1), c .of-matching .ensures, c .before .answer .ensures, c .before .before .low32 .ensures)
 
 pub count-call-spec : {M : Type 1} → statement M
 count-call-spec =
@@ -102,11 +95,9 @@ count-call-spec =
     low32-requires
     answer-requires
     of-matching-requires
-    no-kind-requires
     returns
     returns-2
     returns-3
     returns-4
     returns-5
-    returns-6
-    returns-7)
+    returns-6)

@@ -39,7 +39,14 @@ count-call-requires c κs = search needs
 
 returns-5 : tie.Need-returns-5
 unfolding highCall
-returns-5 c = rw (le-ltb _ _ (c .before .before .before .before .before .before .before .if1 .left), le-ltb _ _ (c .before .before .before .before .before .if2 .left), le-ltb _ _ (c .before .before .before .if3 .left), le-ltb _ _ (c .before .if4 .left)) (c .count-call .ensures)
+returns-5 c = rw (le-ltb _ _ (c .before .before .before .before .before .before .before .before .before .if1 .left), le-ltb _ _ (c .before .before .before .before .before .before .before .if2 .left), le-ltb _ _ (c .before .before .before .before .before .if3 .left), le-ltb _ _ (c .before .before .before .if4 .left), lt-ltb _ _ (c .before .if5 .taken)) (c .count-call .ensures)
+
+ref-call-requires : tie.Need-ref-call-requires
+ref-call-requires c κs = search needs
+
+returns-6 : tie.Need-returns-6
+unfolding highCall
+returns-6 c = rw (le-ltb _ _ (c .before .before .before .before .before .before .before .before .before .if1 .left), le-ltb _ _ (c .before .before .before .before .before .before .before .if2 .left), le-ltb _ _ (c .before .before .before .before .before .if3 .left), le-ltb _ _ (c .before .before .before .if4 .left), le-ltb _ _ (c .before .if5 .left)) (c .ref-call .ensures)
 
 pub high-call-spec : {M : Type 1} → statement M
 high-call-spec =
@@ -54,4 +61,6 @@ high-call-spec =
     score-call-requires
     returns-4
     count-call-requires
-    returns-5)
+    returns-5
+    ref-call-requires
+    returns-6)

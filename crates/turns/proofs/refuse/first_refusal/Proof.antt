@@ -26,10 +26,10 @@ field-refusal-requires : tie.Need-field-refusal-requires
 field-refusal-requires c κs = search needs
 
 returns-3 : tie.Need-returns-3
-returns-3 c = refused-slot (c .before .before .before .before .before .before .before .args .used) (c .before .before .before .before .before .before .before .args .e) (c .before .before .before .before .before .before .if1 .left) (le-ltb _ _ (c .before .before .before .before .if2 .left)) (c .before .before .before .slot-refusal .ensures) (c .before .v .given .1)
+returns-3 c = refused-slot (c .before .before .before .before .before .before .before .args .t) (c .before .before .before .before .before .before .before .args .used) (c .before .before .before .before .before .before .before .args .e) (c .before .before .before .before .before .before .if1 .left) (le-ltb _ _ (c .before .before .before .before .if2 .left)) (c .before .before .before .slot-refusal .ensures) (c .before .v .given .1)
 
 returns-4 : tie.Need-returns-4
-returns-4 c = passed-slot (c .before .before .before .before .before .before .before .args .used) (c .before .before .before .before .before .before .before .args .e) (c .before .before .before .before .before .before .if1 .left) (le-ltb _ _ (c .before .before .before .before .if2 .left)) (c .before .before .before .slot-refusal .ensures) (c .before .enum-told .given .1) (c .field-refusal .ensures)
+returns-4 c = passed-slot (c .before .before .before .before .before .before .before .args .t) (c .before .before .before .before .before .before .before .args .used) (c .before .before .before .before .before .before .before .args .e) (c .before .before .before .before .before .before .if1 .left) (le-ltb _ _ (c .before .before .before .before .if2 .left)) (c .before .before .before .slot-refusal .ensures) (c .before .enum-told .given .1) (c .field-refusal .ensures)
 
 pub first-refusal-spec : {M : Type 1} → statement M
 first-refusal-spec =
