@@ -3,9 +3,10 @@
 -- Assumes nothing.
 use mathlib.Core.List.{[], _∷_}
 use mathlib.Core.Path.{_≡_, refl}
+use Rattle.base.specs.declared.types.MaybeLen.the-variants.{None, Some}
 use Rattle.seek.specs.Rules.{proposalOf}
 use Rattle.halving.specs.Need.{need, left}
-use Rattle.halving.specs.Moves.{Send, Judge, Prove, opened, moves}
+use Rattle.halving.specs.Moves.{Send, Judge, Prove, opened, moves, MoveSends}
 
 -- full 60, 27 proven, none lost: 60 itself, and 43 after its loss
 left-first : left 60 27 0 ≡ 2
@@ -32,6 +33,9 @@ few-cleared : moves 28 opened (Prove 27 ∷ Send ∷ Judge ∷ Send ∷ Judge �
 unfolding proposalOf
 few-cleared = refl
 
--- with nothing proven nothing is proposed, and yet it is counted
-few-none : moves 27 opened (Send ∷ Send ∷ []) .count ≡ 2
-few-none = refl
+-- with nothing proven nothing is proposed: each probe is counted all the same, so that the premise must leave it out
+few-counted : moves 27 opened (Send ∷ Send ∷ []) .count ≡ 2
+few-counted = refl
+
+few-none : (w : MoveSends 27 (opened .search) Send) → None ≡ Some (w .0)
+few-none w = w .1
