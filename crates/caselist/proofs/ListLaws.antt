@@ -15,7 +15,7 @@ use Rattle.rules.specs.declared.types.Event.{Event}
 use Rattle.rules.specs.declared.types.Reply.{Reply}
 use Rattle.rows.specs.View.{slotIn}
 use Rattle.eventfile.specs.File.{settingsOf}
-use Rattle.rowpeer.specs.Record.{recordIn, Steps, Tells}
+use Rattle.rowpeer.specs.Record.{recordIn, AreCoded, Steps, Tells}
 use Rattle.caselist.specs.Lists.{callEvent, givenOf, callsFrom, wholeCalls, answersAgree, standingsAgree, listAgrees}
 
 -- ---- one call
@@ -50,6 +50,7 @@ pub record Going (t l : List ℕ) (a₀ : List (List (List ℕ))) (n : ℕ) (a :
   pub wide : length l < 2 ^ 64
   pub answers : (same && answersAgree (recordIn t a) (restOf n i l)) ≡ answersAgree (recordIn t a₀) (callsFrom n l)
   pub says : run (recordIn t a) (map callEvent (restOf n i l)) ≡ run (recordIn t a₀) (map callEvent (callsFrom n l))
+  pub coded : AreCoded a₀ → AreCoded a
 
 pub going-start : (t l : List ℕ) (a : List (List (List ℕ))) → length l < 2 ^ 64
     → Going t l a (length l / 40) a true 0
@@ -63,6 +64,7 @@ going-start t l a w =
       wide = w;
       answers = λ j. answersAgree (recordIn t a) (callsFrom (z j) (drop (y j) l));
       says = λ j. run (recordIn t a) (map callEvent (callsFrom (z j) (drop (y j) l)));
+      coded = λ c. c;
     }
 
 module _ {t l : List ℕ} {a₀ a : List (List (List ℕ))} {n i : ℕ} {same : Bool} (g : Going t l a₀ n a same i) where
@@ -108,16 +110,19 @@ module _ {t l : List ℕ} {a₀ a : List (List (List ℕ))} {n i : ℕ} {same : 
             (λ j. run (d .1 .next j) (map callEvent r))
             ∙ (λ j. run (recordIn t a) (map callEvent (sym (opened h) j)))
             ∙ g .says;
+        coded = λ e. d .1 .coded (g .coded e);
       }
 
   pub going-end : n ≤ i → n ≡ length l / 40
       → (same ≡ answersAgree (recordIn t a₀) (wholeCalls l)) × (recordIn t a ≡ run (recordIn t a₀) (map callEvent (wholeCalls l)))
+      × (AreCoded a₀ → AreCoded a)
   going-end h e =
       let z : n - i ≡ 0 = omega arith in (
         sym (and-true same) ∙ (λ j. same && answersAgree (recordIn t a) (callsFrom (sym z j) (drop (40 * i) l))) ∙ g .answers
             ∙ (λ j. answersAgree (recordIn t a₀) (callsFrom (e j) l)),
         (λ j. run (recordIn t a) (map callEvent (callsFrom (sym z j) (drop (40 * i) l)))) ∙ g .says
             ∙ (λ j. run (recordIn t a₀) (map callEvent (callsFrom (e j) l))),
+        g .coded,
       )
 
 -- ---- the whole list
@@ -136,6 +141,7 @@ module _ (told given : List ℕ) where
   pub list-told : (t : List ℕ) (a b : List (List (List ℕ))) {l : List ℕ} {one two : Bool} → 32 ≤ length told
       → allowed (settingsOf told) ≡ true → recordIn t a ≡ freshRecord (settingsOf told) → l ≡ drop 32 told
       → (one ≡ answersAgree (recordIn t a) (wholeCalls l)) × (recordIn t b ≡ run (recordIn t a) (map callEvent (wholeCalls l)))
+      × (AreCoded a → AreCoded b)
       → two ≡ standingsAgree (map slotIn b) given
       → (one && two) ≡ listAgrees told given
   unfolding listAgrees

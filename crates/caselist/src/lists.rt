@@ -8,7 +8,7 @@ ghost use Rattle.replay.specs.Replay.{alike};
 ghost use Rattle.rules.specs.Rules.{emptySlot};
 ghost use Rattle.rules.specs.Step.{step, run};
 ghost use Rattle.rows.specs.View.{slotIn};
-ghost use Rattle.rowpeer.specs.Record.{recordIn, Steps};
+ghost use Rattle.rowpeer.specs.Record.{recordIn, AreCoded, Steps};
 ghost use Rattle.caselist.specs.Lists.{wordsIn, callEvent, wholeCalls, answersAgree, slotTold};
 ghost use Rattle.caselist.specs.Lists.{standingsAgree, listAgrees};
 use rows::probes::ROWS;
@@ -38,11 +38,13 @@ fn call_agrees(t: &[u64; 4], rec: &mut [[[u64; 4]; ROWS]; PATH_MAX_PER_PEER], b:
     told == given
 }
 
-// The calls that lie whole within the bytes, on a record in words: whether each is answered with its word.
+// The calls that lie whole within the bytes, on a record in words: whether each is answered with its word. Words that
+// were the encoder's stay so.
 fn calls_agree(t: &[u64; 4], rec: &mut [[[u64; 4]; ROWS]; PATH_MAX_PER_PEER], s: &[u8]) -> bool
     ensures { λ r. let from = recordIn (now (t .entry)) (now (rec .entry)) in
         ⌜ (r ≡ answersAgree from (wholeCalls (now (s .entry))))
-        × (recordIn (now (t .entry)) (now (rec .exit)) ≡ run from (map callEvent (wholeCalls (now (s .entry))))) ⌝ }
+        × (recordIn (now (t .entry)) (now (rec .exit)) ≡ run from (map callEvent (wholeCalls (now (s .entry)))))
+        × (AreCoded (now (rec .entry)) → AreCoded (now (rec .exit))) ⌝ }
 {
     let n = s.len() / 40;
     let mut same = true;
