@@ -12,7 +12,7 @@
 /* The kinds of events that are used here. */
 enum { OPEN = 1, PROBE = 2, ANSWER = 3, POLL = 4, SAMPLE = 5, FOLD = 6, CHOOSE = 15 };
 
-/* The record: the caller's own memory, 16,672 bytes. */
+/* The record: the caller's own memory, 11,040 bytes. */
 static struct hess_record record;
 
 /* An event's number fields; those that its kind has not are 0. */

@@ -15,7 +15,7 @@ struct Taken {
 }
 
 type Settings = [u64; 4];
-type Slots = [[[u64; 4]; 65]; 8];
+type Slots = [[[u64; 4]; 43]; 8];
 
 unsafe extern "C" {
     safe fn hess_record_size() -> u64;
@@ -65,7 +65,7 @@ struct Record {
 impl Record {
     /// Eight empty slots, or the refusal number.
     fn new([cap, gap, window, horizon]: [u64; 4]) -> Result<Self, u64> {
-        let mut record = Self { settings: [0; 4], slots: [[[0; 4]; 65]; 8] };
+        let mut record = Self { settings: [0; 4], slots: [[[0; 4]; 43]; 8] };
         let reply = hess_record_new(&mut record.settings, &mut record.slots, cap, gap, window, horizon);
         if reply.number == 0 { Ok(record) } else { Err(reply.number) }
     }

@@ -1,26 +1,28 @@
-//! The words of the Rust's record, by crates/rows/specs/Encode.antt and crates/cells/specs/Code.antt;
-//! and any words as the encoder would have them, by crates/cells/specs/Cells.antt.
+//! The words of the Rust's record, by crates/rows/specs/{Places,Encode}.antt and crates/cells/specs/Code.antt;
+//! and any words as the encoder would have them, by crates/rows/specs/View.antt and crates/cells/specs/Cells.antt.
 
 use crate::kept::{Kept, ROWS, SlotRows};
 use oracle::proto::path::record::{Record, SLOTS};
 
-/// The first row of each block.
-const LATE: usize = 8;
-const IDS: usize = 12;
-const QUIET: usize = 13;
-const STOP: usize = 14;
-const SEEK: usize = 16;
-const LADDER: usize = 18;
-const ARRIVALS: usize = 19;
-const MISSES: usize = 21;
-const ETX: usize = 22;
-const RTT: usize = 23;
-const SAMPLES: usize = 24;
-const SPANS: usize = 56;
-const MARKS: usize = 64;
+/// The row of each thing, or the first of its rows; before them stand the eight of the ring and the four of the late
+/// list.
+pub const IDS: usize = 12;
+pub const CLOCKS: usize = 13;
+pub const STOP: usize = 14;
+pub const TRIPS: usize = 15;
+pub const SEARCH: usize = 16;
+pub const ARRIVALS: usize = 17;
+pub const MARKS: usize = 18;
+pub const SAMPLES: usize = 19;
+pub const SPANS: usize = 35;
 
-/// What is added to a probe's length while its place is used.
-const USED: u64 = 65_536;
+/// What is added to a length while its place is used: to a probe's, and to the full size.
+pub const USED: u64 = 65_536;
+/// What is added to the last size of a ladder that fell.
+pub const FELL: u64 = 131_072;
+/// What an open's flags, which have so many values, are multiplied by in the label's word.
+pub const FLAG: u64 = 131_072;
+const FLAGS: u64 = 128;
 /// The one NaN.
 const NAN: u64 = 0x7ff8_0000_0000_0000;
 
@@ -55,39 +57,43 @@ pub fn encoded(record: &Record) -> Kept {
     }
 }
 
-/// The 65 rows of a slot.
+/// The 43 rows of a slot.
 pub fn slot_rows(record: &Record, slot: usize) -> SlotRows {
     let mut rows = [[0; 4]; ROWS];
     let (Some(image), Some([full, flags])) = (record.image(slot), record.label(slot)) else {
-        rows[ETX][0] = 1f64.to_bits();
+        rows[TRIPS][1] = 1f64.to_bits();
         return rows;
     };
     let mut w = Words(&image);
     rows[..IDS].fill_with(|| w.sent());
     rows[IDS].fill_with(|| w.one());
-    rows[QUIET][..2].copy_from_slice(&w.take::<2>());
+    let [quiet, since] = w.take();
     let [stopped, free, gap, used, until, end, owed] = w.take();
-    rows[STOP] = [stopped + owed, free, gap, used];
-    rows[STOP + 1] = [until, end, 0, 0];
-    rows[MISSES][0] = w.take::<1>()[0];
-    rows[LADDER] = [w.one(), w.take::<1>()[0], 0, 0];
+    let [misses] = w.take();
+    let last = w.one();
+    let [fallen] = w.take();
     let proven = w.one();
     let [sought, at, id, len, lost] = w.take();
-    rows[SEEK] = [sought, at, id, len];
-    rows[SEEK + 1] = [lost, proven, 0, 0];
-    rows[ARRIVALS + 1][..2].copy_from_slice(&w.take::<2>());
+    let [frames, bytes] = w.take();
+    rows[CLOCKS] = [quiet, since, sought, at];
+    rows[STOP] = [stopped + owed + 2 * until, free, gap, used];
+    rows[SEARCH] = [id + (len << 32), lost, proven, last + fallen * FELL];
     rows[ARRIVALS] = w.take();
-    rows[RTT][..2].copy_from_slice(&w.take::<2>());
-    for row in &mut rows[SAMPLES..SPANS] {
+    let [timed, rtt] = w.take();
+    let mut bits = 0;
+    for n in 0..32 {
         let [used, at, rtt] = w.take();
-        *row = [at, rtt, used, 0];
+        bits |= used << n;
+        rows[SAMPLES + n / 2][n % 2 * 2..][..2].copy_from_slice(&[at, rtt]);
     }
-    for row in &mut rows[SPANS..MARKS] {
+    for row in &mut rows[SPANS..] {
         let [used, from, to, rtt] = w.take();
         *row = [from, to, rtt, used];
     }
-    rows[ETX][0] = w.take::<1>()[0];
-    rows[MARKS] = [1, full, flags, 0];
+    let [etx] = w.take();
+    rows[TRIPS] = [end, etx, timed, rtt];
+    let label = full + USED + flags * FLAG;
+    rows[MARKS] = [frames + (bytes << 32), bits, label, misses];
     rows
 }
 
@@ -101,9 +107,14 @@ fn some(x: u64, values: u64) -> u64 {
     mark(x) * (x.wrapping_sub(1) % values + 1)
 }
 
-/// A mark and an instant, two zeros for none.
-fn time([tag, t]: [u64; 2]) -> [u64; 2] {
-    [mark(tag), mark(tag) * t]
+/// The limit, for a word that reaches it.
+fn above(x: u64, limit: u64) -> u64 {
+    u64::from(x >= limit) * limit
+}
+
+/// Two marks, each before its instant, which is 0 without it.
+fn times([a, s, b, t]: [u64; 4]) -> [u64; 4] {
+    [mark(a), mark(a) * s, mark(b), mark(b) * t]
 }
 
 /// What any words say, in the encoder's words.
@@ -115,61 +126,40 @@ pub fn normal(kept: &Kept) -> Kept {
     made
 }
 
-fn normal_rows(from: &SlotRows) -> SlotRows {
-    let mut rows = [[0; 4]; ROWS];
-    for n in 0..LATE + 4 {
-        let [at, due, id, len] = from[n];
-        rows[n] = [
-            at,
-            due,
-            id % (1 << 32),
-            len % USED + u64::from(len >= USED) * USED,
-        ];
+/// The same of a slot. The samples' instants and round trips are as they are.
+pub fn normal_rows(from: &SlotRows) -> SlotRows {
+    let mut rows = *from;
+    for row in &mut rows[..IDS] {
+        let [at, due, id, len] = *row;
+        *row = [at, due, id % (1 << 32), len % USED + above(len, USED)];
     }
     rows[IDS] = from[IDS].map(|x| some(x, 1 << 32));
-    for n in [QUIET, RTT] {
-        let [a, b] = time([from[n][0], from[n][1]]);
-        rows[n] = [a, b, 0, 0];
-    }
+    rows[CLOCKS] = times(from[CLOCKS]);
     let [stopped, free, gap, used] = from[STOP];
-    if stopped != 0 {
-        rows[STOP] = [1 + u64::from(stopped > 1), free, gap, used];
-        let [a, b] = time([from[STOP + 1][0], from[STOP + 1][1]]);
-        rows[STOP + 1] = [a, b, 0, 0];
-    }
-    let [tag, t, id, len] = from[SEEK];
-    let [a, b] = time([tag, t]);
-    rows[SEEK] = [a, b, id % (1 << 32), len % USED];
-    rows[SEEK + 1] = [
-        from[SEEK + 1][0] % USED,
-        some(from[SEEK + 1][1], USED),
-        0,
-        0,
-    ];
-    rows[LADDER] = [some(from[LADDER][0], USED), mark(from[LADDER][1]), 0, 0];
-    let [a, b, c, d] = from[ARRIVALS];
-    let ([a, b], [c, d]) = (time([a, b]), time([c, d]));
-    rows[ARRIVALS] = [a, b, c, d];
-    rows[ARRIVALS + 1] = [
-        from[ARRIVALS + 1][0] % (1 << 32),
-        from[ARRIVALS + 1][1] % (1 << 32),
-        0,
-        0,
-    ];
-    rows[MISSES][0] = from[MISSES][0] % (1 << 32);
-    rows[ETX][0] = match f64::from_bits(from[ETX][0]).is_nan() {
-        true => NAN,
-        false => from[ETX][0],
+    let until = u64::from(stopped > 2);
+    rows[STOP] = match stopped {
+        0 => [0; 4],
+        _ => [2 - stopped % 2 + 2 * until, free, gap, used],
     };
-    for n in SAMPLES..SPANS {
-        let [at, rtt, used, _] = from[n];
-        rows[n] = [at, rtt, mark(used), 0];
+    rows[TRIPS] = times(from[TRIPS]);
+    rows[TRIPS][0] = until * from[TRIPS][0];
+    rows[TRIPS][1] = match f64::from_bits(from[TRIPS][1]).is_nan() {
+        true => NAN,
+        false => from[TRIPS][1],
+    };
+    let [sent, lost, proven, last] = from[SEARCH];
+    let ladder = some(last % FELL, USED) + above(last, FELL);
+    rows[SEARCH] = [sent % (1 << 48), lost % USED, some(proven, USED), ladder];
+    rows[ARRIVALS] = times(from[ARRIVALS]);
+    let [counts, bits, label, misses] = from[MARKS];
+    rows[MARKS] = [
+        counts,
+        bits % (1 << 32),
+        label % (FLAGS * FLAG),
+        misses % (1 << 32),
+    ];
+    for row in &mut rows[SPANS..] {
+        row[3] = mark(row[3]);
     }
-    for n in SPANS..MARKS {
-        let [first, last, rtt, used] = from[n];
-        rows[n] = [first, last, rtt, mark(used)];
-    }
-    let [used, full, flags, _] = from[MARKS];
-    rows[MARKS] = [mark(used), full % USED, flags % 128, 0];
     rows
 }

@@ -4,7 +4,7 @@ use crate::entries::Reply;
 use oracle::proto::path::record::{Event, SLOTS};
 
 /// Rows of a slot.
-pub const ROWS: usize = 65;
+pub const ROWS: usize = 43;
 
 /// The rows of a slot.
 pub type SlotRows = [[u64; 4]; ROWS];

@@ -32,6 +32,8 @@ mod reach;
 #[cfg(record)]
 mod rows;
 mod smaller;
+#[cfg(record)]
+mod strange;
 #[allow(dead_code)]
 mod wording;
 mod work;

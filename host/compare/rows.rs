@@ -3,14 +3,15 @@
 //! at the limit, which an event tries, and words that no record wrote.
 
 use crate::damage::damaged;
-use crate::encoder::{encoded, normal, slot_rows};
+use crate::encoder::{encoded, normal, normal_rows, slot_rows};
 use crate::entries::Reply;
-use crate::events::{List, THEMES, words_of};
+use crate::events::{CHOOSE, List, THEMES, words_of};
 use crate::filed::Filed;
 use crate::handed::{Handed, Sixes};
 use crate::kept::{Guarded, Kept, reply_in};
 use crate::papers;
 use crate::random::Rng;
+use crate::strange::{self, Reached};
 use oracle::proto::path::eventfile::{Next, SETTINGS, record_at};
 use oracle::proto::path::record::{Event, Record, SLOTS};
 use std::sync::atomic::{AtomicUsize, Ordering};
@@ -20,11 +21,11 @@ use std::time::Instant;
 const THREADS: usize = 2;
 const STANDING: usize = 51;
 const SEED: u64 = 900;
-/// One list in so many runs again with settings at the limit, one in so many has damaged bytes beside it, one in so
-/// many runs on words that no record wrote.
+/// One list in so many runs again with settings at the limit, one in so many has damaged bytes beside it; so many in a
+/// hundred run on words that no record wrote.
 const HANDED: usize = 3;
 const DAMAGED: usize = 8;
-const STRANGE: usize = 4;
+const STRANGE: u64 = 60;
 /// Copies of such words.
 const COPIES: u64 = 3;
 /// One list in so many has thousands of events.
@@ -43,8 +44,7 @@ pub struct Tally {
     unread: u64,
     standings: u64,
     few: u64,
-    strange: u64,
-    strange_refused: u64,
+    strange: Reached,
 }
 
 impl Tally {
@@ -59,13 +59,12 @@ impl Tally {
         self.unread += other.unread;
         self.standings += other.standings;
         self.few += other.few;
-        self.strange += other.strange;
-        self.strange_refused += other.strange_refused;
+        self.strange.add(&other.strange);
     }
 
     /// Calls of ours with an event.
     fn all(&self) -> u64 {
-        self.events + self.unread + COPIES * self.strange
+        self.events + self.unread + COPIES * self.strange.calls()
     }
 }
 
@@ -98,6 +97,7 @@ pub fn compare(events: u64) {
     });
     print(&tally);
     tally.sixes.print();
+    tally.strange.print();
     println!(
         "no difference in rows; {:.1} seconds",
         start.elapsed().as_secs_f64()
@@ -107,7 +107,7 @@ pub fn compare(events: u64) {
 fn print(t: &Tally) {
     println!(
         "{} calls with an event on a record in words: {} in {} lists beside the Rust's record ({} by bytes, {} by words, {} refused; \
-         {} with settings at the limit), {} that can't be read, {} on words that no record wrote, each on {COPIES} copies ({} refused)",
+         {} with settings at the limit), {} that can't be read, {} on words that no record wrote, each on {COPIES} copies",
         t.all(),
         t.events,
         t.lists,
@@ -116,8 +116,7 @@ fn print(t: &Tally) {
         t.refused,
         t.handed,
         t.unread,
-        t.strange,
-        t.strange_refused
+        t.strange.calls()
     );
     println!(
         "  {} standings, {} with too few lent bytes; every word the encoder's after every event",
@@ -145,8 +144,8 @@ fn piece(tally: &mut Tally, n: usize) -> Result<(), String> {
     if n % DAMAGED == 0 && !filed.events.is_empty() {
         Sides::new(&list)?.file(tally, &damaged(&filed, &mut rng))?;
     }
-    if n % STRANGE == 0 {
-        strange(tally, &list, &mut rng)?;
+    if rng.percent(STRANGE) {
+        strange_run(tally, &list, &mut rng)?;
     }
     Ok(())
 }
@@ -268,23 +267,11 @@ impl Sides {
             self.words.slots[slot] = slot_rows(&self.record, slot);
         }
         if self.ours.kept != *self.words {
-            return Err(self.differing());
+            return Err(differing(&self.ours.kept, &self.words));
         }
         tally.events += 1;
         tally.refused += u64::from(rust.0 != 0);
         self.standings(tally)
-    }
-
-    /// The first row that differs.
-    fn differing(&self) -> String {
-        for slot in 0..SLOTS {
-            let (ours, words) = (&self.ours.kept.slots[slot], &self.words.slots[slot]);
-            if let Some(row) = (0..ours.len()).find(|&row| ours[row] != words[row]) {
-                let (ours, words) = (ours[row], words[row]);
-                return format!("slot {slot}, row {row}: ours {ours:x?}, the encoder's {words:x?}");
-            }
-        }
-        "other settings".to_string()
     }
 
     /// The standings of all slots, one more than there are; now and then with too few lent bytes.
@@ -354,23 +341,28 @@ impl Sides {
     }
 }
 
-/// A list on words that no record wrote: a second copy answers the same, by the event's words; the encoder's words of the same record
-/// answer the same, and stay the encoder's for what the others say; a refusal leaves every word.
-fn strange(tally: &mut Tally, list: &List, rng: &mut Rng) -> Result<(), String> {
-    let mut some = rng.clone();
-    let dense = 1 + rng.below(100);
-    let mut ours = Box::new(Guarded::new(Kept::filled(|| match some.percent(dense) {
-        true => some.wide(),
-        false => some.below(3),
-    })));
-    let mut second = Box::new(Guarded::new(ours.kept.clone()));
-    let mut coded = Box::new(Guarded::new(normal(&ours.kept)));
-    let mut before = ours.kept.clone();
-    for (n, event) in list.events.iter().enumerate() {
-        let mut event = *event;
-        if rng.percent(20) {
-            event.slot = rng.below(9) as u8;
+/// The first row that differs.
+fn differing(ours: &Kept, coded: &Kept) -> String {
+    for slot in 0..SLOTS {
+        let (ours, coded) = (&ours.slots[slot], &coded.slots[slot]);
+        if let Some(row) = (0..ours.len()).find(|&row| ours[row] != coded[row]) {
+            let (ours, coded) = (ours[row], coded[row]);
+            return format!("slot {slot}, row {row}: ours {ours:x?}, the encoder's {coded:x?}");
         }
+    }
+    "other settings".to_string()
+}
+
+/// A list on words that no record wrote: a second copy answers the same, by the event's words; the encoder's words of
+/// the same record answer the same, and stay the encoder's for what the others say; and words stay, by `kept_words`.
+fn strange_run(tally: &mut Tally, list: &List, rng: &mut Rng) -> Result<(), String> {
+    let (words, first) = strange::words(list, rng);
+    let mut second = Box::new(Guarded::new(words.clone()));
+    let mut coded = Box::new(Guarded::new(normal(&words)));
+    let mut before = words.clone();
+    let mut ours = Box::new(Guarded::new(words));
+    for (n, event) in list.events.iter().enumerate().skip(first) {
+        let event = strange::aimed(*event, &before, rng);
         let reply = ours.kept.event(&event);
         let told = reply_in(second.kept.words(&words_of(&event, n as u8)));
         let replies = [told, coded.kept.event(&event)];
@@ -382,20 +374,31 @@ fn strange(tally: &mut Tally, list: &List, rng: &mut Rng) -> Result<(), String> 
             return fail("other words in the second copy");
         }
         if normal(&ours.kept) != coded.kept {
-            return fail("other words in the encoder's copy");
+            return fail(&differing(&normal(&ours.kept), &coded.kept));
         }
-        if reply.number != 0 && ours.kept != before {
-            return fail("refused, and a word is another");
+        if !kept_words(&before, &ours.kept, &event, reply) {
+            return fail("a word that must stay is another");
         }
         strange_standing(&ours.kept, &coded.kept, event.slot)?;
-        tally.strange_refused += u64::from(reply.number != 0);
-        tally.strange += 1;
+        let rows = before.slots.get(usize::from(event.slot));
+        let was_coded = rows.is_none_or(|rows| normal_rows(rows) == *rows);
+        tally.strange.count(event.kind, reply.number, was_coded);
         before.clone_from(&ours.kept);
     }
     match ours.whole() && second.whole() && coded.whole() {
         true => Ok(()),
         false => Err("strange words: a word beside the record is another".to_string()),
     }
+}
+
+/// Whether the words that an event leaves are as they were: the settings and those of every other slot; all by a
+/// refusal and by a choose.
+fn kept_words(before: &Kept, after: &Kept, event: &Event, reply: Reply) -> bool {
+    let none = reply.number != 0 || event.kind == CHOOSE;
+    let stays = |slot: usize| {
+        !none && slot == usize::from(event.slot) || before.slots[slot] == after.slots[slot]
+    };
+    before.settings == after.settings && (0..SLOTS).all(stays)
 }
 
 /// The standing is that of the encoder's words.

@@ -11,7 +11,7 @@ ghost use Rattle.rows.specs.View.{slotIn};
 ghost use Rattle.rowpeer.specs.Record.{recordIn, AreCoded, Steps};
 ghost use Rattle.caselist.specs.Lists.{wordsIn, callEvent, wholeCalls, answersAgree, slotTold};
 ghost use Rattle.caselist.specs.Lists.{standingsAgree, listAgrees};
-use rows::probes::ROWS;
+use rows::places::ROWS;
 use select::types::PATH_MAX_PER_PEER;
 
 // The four words at the front of the bytes.

@@ -1,23 +1,21 @@
 -- A row that was made to say something says it (`..-says`), for values within their widths.
 -- Assumes nothing.
 use Prim.Native.Nat.{ℕ, _+_, _*_, _-_, _/_, _<_, _≤_, _%_, _^_}
-use mathlib.Core.Path.{_≡_, refl}
+use mathlib.Core.Path.{_≡_, refl, ap, _∙_}
 use mathlib.Core.Bool.{Bool, true, false, cond}
 use native.Mathlib.Omega.{arith}
+use native.Mathlib.Nat.{mod-eq-of-lt}
 use borrow.Author.Tests.{ne-eqb, le-leb, lt-leb}
 use lib.Dec.{T, eqb, leb, ltb}
 use lib.Ieee.{Float, nan, inf, fin, binary64, fits, ofBits, isNan}
 use lib.Ieee.Bits.{ofBits-toBits}
 use Rattle.base.specs.Seq.{flagOf}
-use Rattle.base.specs.declared.types.MaybeId.{MaybeId}
 use Rattle.base.specs.declared.types.MaybeId.the-variants as id
-use Rattle.base.specs.declared.types.MaybeLen.{MaybeLen}
 use Rattle.base.specs.declared.types.MaybeLen.the-variants as len
 use Rattle.base.specs.declared.types.MaybeTime.{MaybeTime}
 use Rattle.base.specs.declared.types.MaybeTime.the-variants as time
 use Rattle.ring.specs.declared.types.Sent.{Sent}
 use Rattle.ring.specs.declared.types.Ids.{Ids}
-use Rattle.rtt.specs.declared.types.Sample.{Sample}
 use Rattle.rtt.specs.declared.types.Span.{Span}
 use Rattle.seek.specs.declared.types.Ladder.{Ladder}
 use Rattle.seek.specs.declared.types.Sizes.{Sizes}
@@ -32,11 +30,10 @@ use Rattle.select.specs.declared.types.Role.the-variants as role
 use Rattle.select.specs.Media.{mediumOf, roleOf}
 use Rattle.rules.specs.declared.types.Label.{Label}
 use Rattle.rules.specs.declared.types.Settings.{Settings}
-use Rattle.cells.specs.Cells.{flagIn, idIn, lengthIn, instantIn, sentIn, idsIn, firstTime, stopIn, sizesIn, ladderIn}
-use Rattle.cells.specs.Cells.{trafficIn, missesIn, etxIn, sampleIn, spanIn, usedIn, labelIn, settingsIn}
-use Rattle.cells.specs.Code.{idWord, lenWord, sentRow, idsRow, timeRow, stopRow, untilRow, seekRow, provenRow}
-use Rattle.cells.specs.Code.{ladderRow, arrivalsRow, countersRow, missesRow, etxRow, sampleRow, spanRow}
-use Rattle.cells.specs.Code.{mediumBits, roleBits, flagBits, markRow, settingsRow}
+use Rattle.cells.specs.Cells.{flagIn, idIn, lengthIn, instantIn, sentIn, idsIn, stopIn, sizesIn, ladderIn}
+use Rattle.cells.specs.Cells.{trafficIn, missesIn, etxIn, spanIn, usedIn, labelOf, labelIn, settingsIn}
+use Rattle.cells.specs.Code.{idWord, lenWord, sentRow, idsRow, stopRow, untilWord, ladderWord, arrivalsRow}
+use Rattle.cells.specs.Code.{spanRow, mediumBits, roleBits, flagBits, labelWord, settingsRow}
 
 -- a number below its width is itself
 low-same : (x : ℕ) → x < 2 ^ 32 → x % 2 ^ 32 ≡ x
@@ -73,16 +70,6 @@ len-some x h =
     let z : (x + 1 - 1) % 65536 ≡ x = omega arith in
     rw (ne-eqb (x + 1) 0 (λ q. absurd (omega arith)), z)
 
--- the word of what may be missing says it
-pub id-says : (m : MaybeId) → idWord m ≤ 2 ^ 32 → idIn (idWord m) ≡ m
-id-says id.None h = refl
-id-says (id.Some x) h = id-some x (omega arith)
-
--- the same of a length
-pub len-says : (m : MaybeLen) → lenWord m ≤ 65536 → lengthIn (lenWord m) ≡ m
-len-says len.None h = refl
-len-says (len.Some n) h = len-some n (omega arith)
-
 -- the two words of an instant or a duration say it
 pub instant-says : (m : MaybeTime) → instantIn (timeTag m) (timeOrZero m) ≡ m
 instant-says time.None = refl
@@ -103,78 +90,76 @@ pub ids-same : (m : Ids) → idIn (idWord (m .«next_id»)) ≡ m .«next_id» �
 unfolding idsIn idsRow
 ids-same m a b c d = λ k. record { «next_id» = a k; answered = b k; epoch = c k; since = d k }
 
--- the identifiers
-pub ids-says : (m : Ids) → idWord (m .«next_id») ≤ 2 ^ 32 → idWord (m .answered) ≤ 2 ^ 32 → idWord (m .epoch) ≤ 2 ^ 32
-    → idWord (m .since) ≤ 2 ^ 32 → idsIn (idsRow m) ≡ m
-ids-says m a b c d = ids-same m (id-says _ a) (id-says _ b) (id-says _ c) (id-says _ d)
-
--- an instant or a duration
-pub time-says : (m : MaybeTime) → firstTime (timeRow m) ≡ m
-unfolding firstTime timeRow
-time-says m = instant-says m
-
--- whether a slot is owed
-owed-says : (b : Bool) → ltb 1 (1 + flagOf b) ≡ b
-owed-says true = refl
-owed-says false = refl
-
--- the mark of a stop is not 0
-stop-marked : (b : Bool) → eqb (1 + flagOf b) 0 ≡ false
-stop-marked true = refl
-stop-marked false = refl
-
 -- the stop
-pub stop-says : (m : MaybeStop) → stopIn (stopRow m) (untilRow m) ≡ m
-unfolding stopIn stopRow untilRow
+pub stop-says : (m : MaybeStop) → stopIn (stopRow m) (untilWord m) ≡ m
+unfolding stopIn stopRow untilWord
 stop-says stop.None = refl
-stop-says (stop.Some s) =
-    let a = instant-says (s .until) in
-    let b = owed-says (s .owed) in
-    rw (stop-marked (s .owed))
-    (λ k. stop.Some (record { free = s .free; gap = s .gap; used = s .used; until = a k; owed = b k }))
+stop-says (stop.Some s) = told (s .owed) (s .until)
+  where
+    told : (owed : Bool) (until : MaybeTime)
+        → cond (eqb (1 + flagOf owed + 2 * timeTag until) 0) stop.None
+        (stop.Some
+        (record {
+          free = s .free;
+          gap = s .gap;
+          used = s .used;
+          until = cond (ltb 2 (1 + flagOf owed + 2 * timeTag until)) (time.Some (timeOrZero until)) time.None;
+          owed = eqb ((1 + flagOf owed + 2 * timeTag until) % 2) 0;
+        }))
+        ≡ stop.Some (record { free = s .free; gap = s .gap; used = s .used; until = until; owed = owed })
+    told true time.None = refl
+    told true (time.Some t) = refl
+    told false time.None = refl
+    told false (time.Some t) = refl
 
--- the sizes, if the proven one's word says it
-pub sizes-same : (s : Sizes) → s .seek .«probe_id» < 2 ^ 32 → s .seek .len < 65536 → s .seek .lost < 65536
-    → lengthIn (lenWord (s .proven)) ≡ s .proven → sizesIn (seekRow s) (provenRow s) ≡ s
-unfolding sizesIn seekRow provenRow
-sizes-same s a b c d =
+-- the sizes, by their words
+pub sizes-same : (s : Sizes) (w l m : ℕ) → w % 2 ^ 32 ≡ s .seek .«probe_id» → w / 2 ^ 32 % 65536 ≡ s .seek .len
+    → (l ≡ s .seek .lost) × (l < 65536) → lengthIn m ≡ s .proven
+    → sizesIn (timeTag (s .seek .at)) (timeOrZero (s .seek .at)) w l m ≡ s
+unfolding sizesIn
+sizes-same s w l m a b c d =
     let t = instant-says (s .seek .at) in
-    let i = low-same (s .seek .«probe_id») a in
-    let n = short-same (s .seek .len) b in
-    let o = short-same (s .seek .lost) c in
-    λ k. record { seek = record { at = t k; «probe_id» = i k; len = n k; lost = o k }; proven = d k }
+    let o : l % 65536 ≡ s .seek .lost = short-same l (c .1) ∙ c .0 in
+    λ k. record { seek = record { at = t k; «probe_id» = a k; len = b k; lost = o k }; proven = d k }
 
--- the sizes
-pub sizes-says : (s : Sizes) → s .seek .«probe_id» < 2 ^ 32 → s .seek .len < 65536 → s .seek .lost < 65536
-    → lenWord (s .proven) ≤ 65536 → sizesIn (seekRow s) (provenRow s) ≡ s
-sizes-says s a b c d = sizes-same s a b c (len-says _ d)
-
--- the ladder, if the last size's word says it
-pub ladder-same : (l : Ladder) → lengthIn (lenWord (l .last)) ≡ l .last → ladderIn (ladderRow l) ≡ l
-unfolding ladderIn ladderRow
-ladder-same l e =
-    let f = flag-same (l .fallen) in
-    λ k. record { last = e k; fallen = f k }
-
--- the ladder
-pub ladder-says : (l : Ladder) → lenWord (l .last) ≤ 65536 → ladderIn (ladderRow l) ≡ l
-ladder-says l h = ladder-same l (len-says _ h)
-
--- the traffic
-pub traffic-says : (t : Traffic) → t .frames < 2 ^ 32 → t .bytes < 2 ^ 32
-    → trafficIn (arrivalsRow t) (countersRow t) ≡ t
-unfolding trafficIn arrivalsRow countersRow
-traffic-says t h i =
+-- the traffic, by its words
+pub traffic-same : (t : Traffic) (w : ℕ) → w % 2 ^ 32 ≡ t .frames → w / 2 ^ 32 % 2 ^ 32 ≡ t .bytes
+    → trafficIn (arrivalsRow t) w ≡ t
+unfolding trafficIn arrivalsRow
+traffic-same t w f g =
     let a = instant-says (t .«heard_at») in
     let b = instant-says (t .«data_at») in
-    let f = low-same (t .frames) h in
-    let g = low-same (t .bytes) i in
     λ k. record { «heard_at» = a k; «data_at» = b k; frames = f k; bytes = g k }
 
 -- the misses
-pub misses-says : (n : ℕ) → n < 2 ^ 32 → missesIn (missesRow n) ≡ n
-unfolding missesIn missesRow
-misses-says n h = low-same n h
+pub misses-same : {n x : ℕ} → (x ≡ n) × (x < 2 ^ 32) → missesIn x ≡ n
+unfolding missesIn
+misses-same {n} {x} e = low-same x (e .1) ∙ e .0
+
+-- a word that was marked by a flag
+marked : (x n : ℕ) (b : Bool) → n ≤ 65536 → x ≡ n + 131072 * flagOf b → (x % 131072 ≡ n) × (leb 131072 x ≡ b)
+marked x n true h e = (omega arith, le-leb 131072 x (omega arith))
+marked x n false h e = (omega arith, lt-leb 131072 x (omega arith))
+
+-- the ladder
+pub ladder-made : (l : Ladder) {a f : ℕ} → (a ≡ lenWord (l .last)) × (lengthIn a ≡ l .last) × (a ≤ 65536)
+    → f ≡ 131072 * flagOf (l .fallen) → (a + f ≡ ladderWord l) × (ladderIn (a + f) ≡ l)
+unfolding ladderWord ladderIn
+ladder-made l {a} {f} e g =
+    let m = marked (a + f) a (l .fallen) (e .2) (ap (λ (x : ℕ). a + x) g) in (
+      (λ k. e .0 k + g k),
+      (λ k. record { last = lengthIn (m .0 k); fallen = m .1 k }) ∙ (λ k. record { last = e .1 k; fallen = l .fallen }),
+    )
+
+-- two halves of a word
+pub halves-made : (n : ℕ) {a b x y : ℕ} → (a ≡ x) × (a < 2 ^ 32) → (b ≡ y) × (b < n)
+    → (a + b * 2 ^ 32 ≡ x + y * 2 ^ 32) × ((a + b * 2 ^ 32) % 2 ^ 32 ≡ x) × ((a + b * 2 ^ 32) / 2 ^ 32 % n ≡ y)
+halves-made n {a} {b} {x} {y} e f =
+    let p : a ≡ x = e .0 in
+    let q : a < 2 ^ 32 = e .1 in
+    let r : b ≡ y = f .0 in
+    let s : (a + b * 2 ^ 32) / 2 ^ 32 ≡ b = omega arith in
+    (omega arith, omega arith, ap (λ (z : ℕ). z % n) s ∙ mod-eq-of-lt (f .1) ∙ r)
 
 -- the quiet NaN's pattern
 nan-read : ofBits binary64 0x7ff8_0000_0000_0000 ≡ nan
@@ -189,16 +174,13 @@ etx-read (inf s) h = ofBits-toBits binary64 (inf s) h
 etx-read (fin s m k) h = ofBits-toBits binary64 (fin s m k) h
 
 -- the ETX
-pub etx-says : (x : Float) → T (fits binary64 x) → etxIn (etxRow x) ≡ x
-unfolding etxIn etxRow
+pub etx-says : (x : Float) → T (fits binary64 x) → etxIn (etxBits x) ≡ x
+unfolding etxIn
 etx-says x h = etx-read x h
 
--- a sample
-pub sample-says : (s : Sample) → sampleIn (sampleRow s) ≡ s
-unfolding sampleIn sampleRow
-sample-says s =
-    let f = flag-same (s .used) in
-    λ k. record { at = s .at; rtt = s .rtt; used = f k }
+-- the ETX's word
+pub etx-made : {b : ℕ} (x : Float) → T (fits binary64 x) → b ≡ etxBits x → (b ≡ etxBits x) × (etxIn b ≡ x)
+etx-made x h e = (e, ap etxIn e ∙ etx-says x h)
 
 -- a span
 pub span-says : (s : Span) → spanIn (spanRow s) ≡ s
@@ -265,18 +247,12 @@ parts x m n a b c e h i j k l =
       preferred = omega arith;
     }
 
--- whether the slot holds a path
-pub used-says : (used : Bool) (l : Label) → usedIn (markRow used l) ≡ used
-unfolding usedIn markRow
-used-says used l = flag-same used
-
--- what its open said
-pub label-says : (used : Bool) (l : Label) → l .full < 65536 → labelIn (markRow used l) ≡ l
-unfolding labelIn markRow
-label-says used l h =
+-- the flags of a label
+label-flags : (l : Label) (w : ℕ) → w % 65536 ≡ l .full → labelOf w (flagBits l) ≡ l
+unfolding labelOf
+label-flags l w f =
     let p = parts (flagBits l) _ _ _ _ _ refl (medium-small (l .medium)) (role-small (l .role)) (flag-small (l .pinned))
     (flag-small (l .fits)) (flag-small (l .preferred)) in
-    let f = short-same (l .full) h in
     let a = bit-same (l .pinned) _ (p .pinned) in
     let b = bit-same (l .fits) _ (p .fits) in
     let c = bit-same (l .preferred) _ (p .preferred) in
@@ -284,10 +260,36 @@ label-says used l h =
     let r = role-same (l .role) _ (p .role) in
     λ k. record { full = f k; pinned = a k; fits = b k; preferred = c k; medium = m k; role = r k }
 
+-- the parts of a slot's marks
+record Marked (w n u x : ℕ) : Type 0 where
+  pub full : w % 65536 ≡ n
+  pub used : w / 65536 % 2 ≡ u
+  pub flags : w / 131072 ≡ x
+
+-- by their widths
+slot-marked : (w n u x : ℕ) → w ≡ n + 65536 * u + 131072 * x → n < 65536 → u < 2 → Marked w n u x
+slot-marked w n u x e h i = record { full = omega arith; used = omega arith; flags = omega arith }
+
 -- the marks of a slot
-pub mark-says : (used : Bool) (l : Label) → l .full < 65536
-    → (usedIn (markRow used l) ≡ used) × (labelIn (markRow used l) ≡ l)
-mark-says used l h = (used-says used l, label-says used l h)
+pub label-made : (on : Bool) (l : Label) {u n x : ℕ} → (u ≡ flagOf on) × (u < 2) → (n ≡ l .full) × (n < 65536)
+    → x ≡ flagBits l
+    → let w = n + 65536 * u + 131072 * x in (w ≡ labelWord on l) × (usedIn w ≡ on) × (labelIn w ≡ l)
+unfolding labelWord usedIn
+label-made on l {u} {n} {x} e f g =
+    let w : ℕ = n + 65536 * u + 131072 * x in
+    let m = slot-marked w n u x refl (f .1) (e .1) in (
+      (λ k. f .0 k + 65536 * e .0 k + 131072 * g k),
+      bit-same on (w / 65536 % 2) (m .used ∙ e .0),
+      ap (labelOf w) (m .flags ∙ g) ∙ label-flags l w (m .full ∙ f .0),
+    )
+
+-- the marks of a slot whose full size is within its width
+pub label-says : (on : Bool) (l : Label) → l .full < 65536
+    → (usedIn (labelWord on l) ≡ on) × (labelIn (labelWord on l) ≡ l)
+unfolding labelWord
+label-says on l h =
+    let m = label-made on l (refl, flag-small on) (refl, h) refl in
+    (m .1, m .2)
 
 -- the settings
 pub settings-says : (t : Settings) → settingsIn (settingsRow t) ≡ t

@@ -1,11 +1,12 @@
--- What a row of four words says. Each definition is total, so that any words say something: a number is taken modulo
--- its width, a mark is a word that is not 0.
-use Prim.Native.Nat.{ℕ, _-_, _/_, _%_, _^_}
+-- What a row of four words says, or a word of it. Each definition is total, so that any words say something: a number is
+-- taken modulo its width; a mark is a word that is not 0, one from a limit on, or a bit.
+use Prim.Native.Nat.{ℕ, _+_, _*_, _-_, _/_, _%_, _^_}
 use mathlib.Core.List.{List, [], _∷_}
-use mathlib.Core.Bool.{Bool, not, cond}
+use mathlib.Core.Bool.{Bool, true, false, not, cond}
 use lib.Dec.{leb, ltb, eqb}
 use lib.Ieee.{Float, binary64, ofBits}
 use lib.ListN.{getD}
+use Rattle.base.specs.Seq.{flagOf}
 use Rattle.base.specs.declared.types.MaybeId.{MaybeId}
 use Rattle.base.specs.declared.types.MaybeId.the-variants as id
 use Rattle.base.specs.declared.types.MaybeLen.{MaybeLen}
@@ -21,7 +22,8 @@ use Rattle.seek.specs.declared.types.Ladder.{Ladder}
 use Rattle.stop.specs.declared.types.MaybeStop.{MaybeStop}
 use Rattle.stop.specs.declared.types.MaybeStop.the-variants as stop
 use Rattle.live.specs.declared.types.Traffic.{Traffic}
-use Rattle.select.specs.Media.{mediumOf, roleOf}
+use Rattle.rules.specs.Event.{Open, kindNumber}
+use Rattle.rules.specs.Rules.{labelBy}
 use Rattle.rules.specs.declared.types.Event.{Event}
 use Rattle.rules.specs.declared.types.Label.{Label}
 use Rattle.rules.specs.declared.types.Settings.{Settings}
@@ -35,9 +37,22 @@ abbrev pub withWord : List ℕ → ℕ → ℕ → List ℕ
 withWord r k x =
     cond (eqb k 0) x (word r 0) ∷ cond (eqb k 1) x (word r 1) ∷ cond (eqb k 2) x (word r 2) ∷ cond (eqb k 3) x (word r 3) ∷ []
 
--- the first two words of a row, the last two of another
-abbrev pub firstTwo : List ℕ → List ℕ → List ℕ
-firstTwo s r = word s 0 ∷ word s 1 ∷ word r 2 ∷ word r 3 ∷ []
+-- a row with half of it anew: the last two words, or the first two
+abbrev pub withHalf : List ℕ → Bool → ℕ → ℕ → List ℕ
+withHalf r last x y =
+    cond last (word r 0) x ∷ cond last (word r 1) y ∷ cond last x (word r 2) ∷ cond last y (word r 3) ∷ []
+
+-- the lowest bit of a word
+abbrev pub oddIn : ℕ → Bool
+oddIn m = eqb (m % 2) 1
+
+-- the bit of a word at a place, 0 the lowest
+unfoldable pub bitIn : ℕ → ℕ → Bool
+bitIn m i = oddIn (m / 2 ^ i)
+
+-- a word with the bit at a place anew
+unfoldable pub withBit : ℕ → ℕ → Bool → ℕ
+withBit m i on = (m / 2 ^ i / 2 * 2 + flagOf on) * 2 ^ i + m % 2 ^ i
 
 -- a mark
 abbrev pub flagIn : ℕ → Bool
@@ -86,13 +101,10 @@ withId m k x =
       since = cond (eqb k 3) x (m .since);
     }
 
--- an instant or a duration in the first two words: the silence clock, the latest round trip
-unfoldable pub firstTime : List ℕ → MaybeTime
-firstTime r = instantIn (word r 0) (word r 1)
-
--- the stop: a mark, above 1 if a slot is owed, then free, gap, used; in a second row until
-unfoldable pub stopIn : List ℕ → List ℕ → MaybeStop
-stopIn r s =
+-- the stop: a mark, 0 with none, else 1, with 1 more if a slot is owed and 2 more if it has until; free, gap, used; and u
+-- is until
+unfoldable pub stopIn : List ℕ → ℕ → MaybeStop
+stopIn r u =
     cond (eqb (word r 0) 0)
     stop.None
     (stop.Some
@@ -100,69 +112,82 @@ stopIn r s =
       free = word r 1;
       gap = word r 2;
       used = word r 3;
-      until = instantIn (word s 0) (word s 1);
-      owed = ltb 1 (word r 0);
+      until = cond (ltb 2 (word r 0)) (time.Some u) time.None;
+      owed = eqb (word r 0 % 2) 0;
     }))
 
--- the search's instant, identifier and length; in a second row the lost size and the proven one
-unfoldable pub sizesIn : List ℕ → List ℕ → Sizes
-sizesIn r s =
+-- the sizes: the search's instant, its mark before it; identifier and length, half a word each; the lost size, the proven
+unfoldable pub sizesIn : ℕ → ℕ → ℕ → ℕ → ℕ → Sizes
+sizesIn tag at sent lost proven =
     record {
       seek =
           record {
-            at = instantIn (word r 0) (word r 1);
-            «probe_id» = word r 2 % 2 ^ 32;
-            len = word r 3 % 65536;
-            lost = word s 0 % 65536;
+            at = instantIn tag at;
+            «probe_id» = sent % 2 ^ 32;
+            len = sent / 2 ^ 32 % 65536;
+            lost = lost % 65536;
           };
-      proven = lengthIn (word s 1);
+      proven = lengthIn proven;
     }
 
--- the ladder: the last size, and whether it fell
-unfoldable pub ladderIn : List ℕ → Ladder
-ladderIn r = record { last = lengthIn (word r 0); fallen = flagIn (word r 1) }
+-- the ladder: the last size, and 131,072 more if it fell
+unfoldable pub ladderIn : ℕ → Ladder
+ladderIn w = record { last = lengthIn (w % 131072); fallen = leb 131072 w }
 
--- when the last frame and the last session datagram came; in a second row frames and bytes
-unfoldable pub trafficIn : List ℕ → List ℕ → Traffic
-trafficIn r s =
+-- when the last frame and the last session datagram came; frames and bytes, half a word each
+unfoldable pub trafficIn : List ℕ → ℕ → Traffic
+trafficIn r counts =
     record {
       «heard_at» = instantIn (word r 0) (word r 1);
       «data_at» = instantIn (word r 2) (word r 3);
-      frames = word s 0 % 2 ^ 32;
-      bytes = word s 1 % 2 ^ 32;
+      frames = counts % 2 ^ 32;
+      bytes = counts / 2 ^ 32 % 2 ^ 32;
     }
 
 -- the misses
-unfoldable pub missesIn : List ℕ → ℕ
-missesIn r = word r 0 % 2 ^ 32
+unfoldable pub missesIn : ℕ → ℕ
+missesIn w = w % 2 ^ 32
 
 -- the ETX, by its pattern
-unfoldable pub etxIn : List ℕ → Float
-etxIn r = ofBits binary64 (word r 0)
+unfoldable pub etxIn : ℕ → Float
+etxIn w = ofBits binary64 w
 
--- a sample: at, round trip, whether the place is used
-unfoldable pub sampleIn : List ℕ → Sample
-sampleIn r = record { at = word r 0; rtt = word r 1; used = flagIn (word r 2) }
+-- a sample in the last half of a row, or the first: at, round trip; whether its place is used is said elsewhere
+abbrev pub sampleIn : List ℕ → Bool → Bool → Sample
+sampleIn r last used = record { at = cond last (word r 2) (word r 0); rtt = cond last (word r 3) (word r 1); used = used }
+
+-- samples, two to a row; the bits of m say which places are used, the lowest the first
+abbrev pub samplesFrom : ℕ → List (List ℕ) → List Sample
+samplesFrom m [] = []
+samplesFrom m (r ∷ l) = sampleIn r false (oddIn m) ∷ sampleIn r true (oddIn (m / 2)) ∷ samplesFrom (m / 4) l
 
 -- a span: from, to, round trip, whether the place is used
 unfoldable pub spanIn : List ℕ → Span
 spanIn r = record { from = word r 0; to = word r 1; rtt = word r 2; used = flagIn (word r 3) }
 
--- whether a slot holds a path
-unfoldable pub usedIn : List ℕ → Bool
-usedIn r = flagIn (word r 0)
+-- the slot's marks, in one word: the full size; 65,536 more if the slot holds a path; and from the bit above it on the
+-- flag bits as an open has them. Whether it holds a path
+unfoldable pub usedIn : ℕ → Bool
+usedIn w = oddIn (w / 65536)
 
--- what its open said of it: the full size, and the flag bits as an open has them
-unfoldable pub labelIn : List ℕ → Label
-labelIn r =
-    record {
-      full = word r 1 % 65536;
-      pinned = eqb (word r 2 / 16 % 2) 1;
-      fits = eqb (word r 2 / 32 % 2) 1;
-      preferred = eqb (word r 2 / 64 % 2) 1;
-      medium = mediumOf (word r 2);
-      role = roleOf (word r 2 / 4);
-    }
+-- what an open with this full size and these flag bits says, by the rule of open
+unfoldable pub labelOf : ℕ → ℕ → Label
+labelOf full flags =
+    labelBy
+    (record {
+      kind = kindNumber Open;
+      slot = 0;
+      flags = flags;
+      now = 0;
+      span = 0;
+      id = 0;
+      len = full % 65536;
+      acked = 0;
+    })
+
+-- what the slot's open said
+abbrev pub labelIn : ℕ → Label
+labelIn w = labelOf w (w / 131072)
 
 -- the settings of a record
 unfoldable pub settingsIn : List ℕ → Settings

@@ -1,4 +1,4 @@
--- The encoder's rows: the row that says a given thing, a spare word 0.
+-- The encoder's rows and words: the row, or the word of a row, that says a given thing. What is not read is 0.
 use Prim.Native.Nat.{ℕ, _+_, _*_, _^_}
 use mathlib.Core.List.{List, [], _∷_}
 use mathlib.Core.Bool.{Bool, cond}
@@ -13,6 +13,7 @@ use Rattle.ring.specs.declared.types.Sent.{Sent}
 use Rattle.ring.specs.declared.types.Ids.{Ids}
 use Rattle.rtt.specs.declared.types.Sample.{Sample}
 use Rattle.rtt.specs.declared.types.Span.{Span}
+use Rattle.seek.specs.declared.types.Seek.{Seek}
 use Rattle.seek.specs.declared.types.Sizes.{Sizes}
 use Rattle.seek.specs.declared.types.Ladder.{Ladder}
 use Rattle.stop.specs.declared.types.MaybeStop.{MaybeStop}
@@ -37,61 +38,76 @@ abbrev pub lenWord : MaybeLen → ℕ
 lenWord len.None = 0
 lenWord (len.Some n) = n + 1
 
+-- a probe
 unfoldable pub sentRow : Sent → List ℕ
 sentRow s = s .at ∷ s .due ∷ s .«probe_id» ∷ (s .len + cond (s .used) 65536 0) ∷ []
 
+-- the identifiers
 unfoldable pub idsRow : Ids → List ℕ
 idsRow m = idWord (m .«next_id») ∷ idWord (m .answered) ∷ idWord (m .epoch) ∷ idWord (m .since) ∷ []
 
-unfoldable pub timeRow : MaybeTime → List ℕ
-timeRow m = timeTag m ∷ timeOrZero m ∷ 0 ∷ 0 ∷ []
+-- the silence clock, and the search's instant
+unfoldable pub clocksRow : MaybeTime → MaybeTime → List ℕ
+clocksRow q at = timeTag q ∷ timeOrZero q ∷ timeTag at ∷ timeOrZero at ∷ []
 
--- the two rows of the stop, all 0 with none
+-- the stop, all 0 with none
 unfoldable pub stopRow : MaybeStop → List ℕ
 stopRow stop.None = 0 ∷ 0 ∷ 0 ∷ 0 ∷ []
-stopRow (stop.Some s) = (1 + flagOf (s .owed)) ∷ s .free ∷ s .gap ∷ s .used ∷ []
+stopRow (stop.Some s) = (1 + flagOf (s .owed) + 2 * timeTag (s .until)) ∷ s .free ∷ s .gap ∷ s .used ∷ []
 
-unfoldable pub untilRow : MaybeStop → List ℕ
-untilRow stop.None = 0 ∷ 0 ∷ 0 ∷ 0 ∷ []
-untilRow (stop.Some s) = timeTag (s .until) ∷ timeOrZero (s .until) ∷ 0 ∷ 0 ∷ []
+-- its until, 0 with none
+unfoldable pub untilWord : MaybeStop → ℕ
+untilWord stop.None = 0
+untilWord (stop.Some s) = timeOrZero (s .until)
 
--- the two rows of the sizes
-unfoldable pub seekRow : Sizes → List ℕ
-seekRow s = timeTag (s .seek .at) ∷ timeOrZero (s .seek .at) ∷ s .seek .«probe_id» ∷ s .seek .len ∷ []
+-- until, the ETX, and the latest round trip
+unfoldable pub tripsRow : MaybeStop → Float → MaybeTime → List ℕ
+tripsRow m x t = untilWord m ∷ etxBits x ∷ timeTag t ∷ timeOrZero t ∷ []
 
-unfoldable pub provenRow : Sizes → List ℕ
-provenRow s = s .seek .lost ∷ lenWord (s .proven) ∷ 0 ∷ 0 ∷ []
+-- the search's identifier and length
+unfoldable pub searchWord : Seek → ℕ
+searchWord s = s .«probe_id» + s .len * 2 ^ 32
 
-unfoldable pub ladderRow : Ladder → List ℕ
-ladderRow l = lenWord (l .last) ∷ flagOf (l .fallen) ∷ 0 ∷ 0 ∷ []
+-- the ladder
+unfoldable pub ladderWord : Ladder → ℕ
+ladderWord l = lenWord (l .last) + 131072 * flagOf (l .fallen)
 
--- the two rows of the traffic
+-- the search, the lost and the proven size, and the ladder
+unfoldable pub searchRow : Sizes → Ladder → List ℕ
+searchRow s l = searchWord (s .seek) ∷ s .seek .lost ∷ lenWord (s .proven) ∷ ladderWord l ∷ []
+
+-- when the last frame and the last session datagram came
 unfoldable pub arrivalsRow : Traffic → List ℕ
 arrivalsRow t =
     timeTag (t .«heard_at») ∷ timeOrZero (t .«heard_at») ∷ timeTag (t .«data_at») ∷ timeOrZero (t .«data_at») ∷ []
 
-unfoldable pub countersRow : Traffic → List ℕ
-countersRow t = t .frames ∷ t .bytes ∷ 0 ∷ 0 ∷ []
+-- frames and bytes
+unfoldable pub countWord : Traffic → ℕ
+countWord t = t .frames + t .bytes * 2 ^ 32
 
-unfoldable pub missesRow : ℕ → List ℕ
-missesRow n = n ∷ 0 ∷ 0 ∷ 0 ∷ []
+-- the rows of samples, two to a row
+abbrev pub sampleRows : List Sample → List (List ℕ)
+sampleRows [] = []
+sampleRows (s ∷ []) = (s .at ∷ s .rtt ∷ 0 ∷ 0 ∷ []) ∷ []
+sampleRows (s ∷ t ∷ l) = (s .at ∷ s .rtt ∷ t .at ∷ t .rtt ∷ []) ∷ sampleRows l
 
-unfoldable pub etxRow : Float → List ℕ
-etxRow x = etxBits x ∷ 0 ∷ 0 ∷ 0 ∷ []
+-- the word that says which of their places are used, the first one's bit the lowest
+abbrev pub sampleBits : List Sample → ℕ
+sampleBits [] = 0
+sampleBits (s ∷ l) = flagOf (s .used) + 2 * sampleBits l
 
-unfoldable pub sampleRow : Sample → List ℕ
-sampleRow s = s .at ∷ s .rtt ∷ flagOf (s .used) ∷ 0 ∷ []
-
+-- a span
 unfoldable pub spanRow : Span → List ℕ
 spanRow s = s .from ∷ s .to ∷ s .rtt ∷ flagOf (s .used) ∷ []
 
--- the numbers of media and roles in an open's flags
+-- the numbers of media in an open's flags
 abbrev pub mediumBits : Medium → ℕ
 mediumBits medium.Ble = 0
 mediumBits medium.Wired = 1
 mediumBits medium.Wireless = 2
 mediumBits medium.Unknown = 3
 
+-- and of roles
 abbrev pub roleBits : Role → ℕ
 roleBits role.Never = 0
 roleBits role.Backup = 1
@@ -104,9 +120,15 @@ flagBits l =
     mediumBits (l .medium) + 4 * roleBits (l .role) + 16 * flagOf (l .pinned) + 32 * flagOf (l .fits)
     + 64 * flagOf (l .preferred)
 
-unfoldable pub markRow : Bool → Label → List ℕ
-markRow used l = flagOf used ∷ l .full ∷ flagBits l ∷ 0 ∷ []
+-- whether a slot holds a path, and what its open said
+unfoldable pub labelWord : Bool → Label → ℕ
+labelWord used l = l .full + 65536 * flagOf used + 131072 * flagBits l
 
+-- frames and bytes, which samples are used, the slot's marks, the misses
+unfoldable pub marksRow : Traffic → List Sample → Bool → Label → ℕ → List ℕ
+marksRow t l used label misses = countWord t ∷ sampleBits l ∷ labelWord used label ∷ misses ∷ []
+
+-- the settings of a record
 unfoldable pub settingsRow : Settings → List ℕ
 settingsRow t = t .cap ∷ t .gap ∷ t .window ∷ t .horizon ∷ []
 

@@ -1,27 +1,25 @@
-// The row of a slot's marks, and the settings of a record.
+// The word of a slot's marks, and the settings of a record.
 ghost use mathlib.Core.Path.{_≡_};
 ghost use Prim.Native.Nat.{_<_};
-ghost use Rattle.cells.specs.Cells.{usedIn, labelIn, settingsIn};
+ghost use Rattle.cells.specs.Cells.{usedIn, labelOf, labelIn, settingsIn};
 ghost use Rattle.base.specs.Seq.{flagOf};
-ghost use Rattle.cells.specs.Code.{mediumBits, roleBits, flagBits, markRow, settingsRow};
+ghost use Rattle.cells.specs.Code.{mediumBits, roleBits, flagBits, labelWord, settingsRow};
 use crate::words::*;
 use rules::types::*;
 use select::types::*;
 
 // Whether the slot holds a path.
-pub fn used_in(t: [u64; 4]) -> bool
-    ensures { λ r. ⌜ r ≡ usedIn t ⌝ }
+pub fn used_in(w: u64) -> bool
+    ensures { λ r. ⌜ r ≡ usedIn w ⌝ }
 {
-    let mark = t[0];
-    !(mark == 0)
+    w / 65536 % 2 == 1
 }
 
-// What the slot's open said.
-pub fn label_in(t: [u64; 4]) -> Label
-    ensures { λ r. ⌜ r ≡ labelIn t ⌝ }
+// What an open with this full size and these flags says.
+pub fn label_of(size: u64, flags: u64) -> Label
+    ensures { λ r. ⌜ r ≡ labelOf size flags ⌝ }
 {
-    let full = short(t[1]);
-    let flags = t[2];
+    let full = short(size);
     let medium = select::media::medium_of(flags);
     let role = select::media::role_of(flags / 4);
     Label {
@@ -32,6 +30,13 @@ pub fn label_in(t: [u64; 4]) -> Label
         medium: medium,
         role: role,
     }
+}
+
+// What the slot's open said.
+pub fn label_in(w: u64) -> Label
+    ensures { λ r. ⌜ r ≡ labelIn w ⌝ }
+{
+    label_of(w, w / 131072)
 }
 
 // The number of a medium in an open's flags.
@@ -67,7 +72,7 @@ fn bit(on: bool) -> u64
 
 // The flags of an open that says this.
 fn flag_bits(l: Label) -> u64
-    ensures { λ r. ⌜ r ≡ flagBits l ⌝ }
+    ensures { λ r. ⌜ (r ≡ flagBits l) × (r < 128) ⌝ }
 {
     let medium = l.medium;
     let role = l.role;
@@ -79,14 +84,14 @@ fn flag_bits(l: Label) -> u64
     m + 4 * n + 16 * a + 32 * b + 64 * c
 }
 
-// The row that says a slot's marks.
-pub fn mark_row(used: bool, l: Label) -> [u64; 4]
-    ensures { λ r. ⌜ (r ≡ markRow used l) × (usedIn r ≡ used) × (labelIn r ≡ l) ⌝ }
+// The word that says a slot's marks.
+pub fn label_word(used: bool, l: Label) -> u64
+    ensures { λ r. ⌜ (r ≡ labelWord used l) × (usedIn r ≡ used) × (labelIn r ≡ l) ⌝ }
 {
     let on = bit(used);
     let full = wide_len(l.full);
     let flags = flag_bits(l);
-    [on, full, flags, 0]
+    full + 65536 * on + 131072 * flags
 }
 
 // The settings that four words say.

@@ -1,13 +1,10 @@
-// Rows of what a path measures: instants, samples, spans, the ETX, the sizes, the traffic. A part of two rows has them
-// in a struct.
+// Rows and words of what a path measures: samples, spans, the ETX, the sizes, the traffic, the stop.
 ghost use mathlib.Core.Path.{_≡_};
-ghost use Prim.Native.Nat.{_+_};
+ghost use Prim.Native.Nat.{_+_, _*_, _/_, _%_, _^_, _≤_};
 ghost use Rattle.base.specs.Seq.{flagOf};
-ghost use Rattle.cells.specs.Cells.{word, instantIn, firstTime, sampleIn, spanIn, etxIn, sizesIn, trafficIn};
-ghost use Rattle.cells.specs.Cells.{stopIn};
-ghost use Rattle.cells.specs.Code.{stopRow, untilRow};
-ghost use Rattle.cells.specs.Code.{timeRow, sampleRow, spanRow, etxRow, seekRow, provenRow};
-ghost use Rattle.cells.specs.Code.{arrivalsRow, countersRow};
+ghost use Rattle.image.specs.Image.{timeTag, etxBits};
+ghost use Rattle.cells.specs.Cells.{sampleIn, spanIn, etxIn, sizesIn, trafficIn};
+ghost use Rattle.cells.specs.Code.{spanRow, searchWord, arrivalsRow, countWord, stopRow, untilWord};
 use crate::words::*;
 use base::types::*;
 use image::words::*;
@@ -16,61 +13,17 @@ use rtt::types::*;
 use seek::types::*;
 use stop::types::*;
 
-// Two rows.
-pub struct Two {
-    pub a: [u64; 4],
-    pub b: [u64; 4],
-}
-
-// The instant or duration that a row's first two words say.
-pub fn first_time(t: [u64; 4]) -> MaybeTime
-    ensures { λ r. ⌜ r ≡ firstTime t ⌝ }
+// The sample that half a row says.
+pub fn sample_in(t: [u64; 4], last: bool, used: bool) -> Sample
+    ensures { λ r. ⌜ r ≡ sampleIn t last used ⌝ }
 {
-    let tag = t[0];
-    let at = t[1];
-    time_in(tag, at)
-}
-
-// The instant or duration that a row's last two words say.
-pub fn second_time(t: [u64; 4]) -> MaybeTime
-    ensures { λ r. ⌜ r ≡ instantIn (word t 2) (word t 3) ⌝ }
-{
-    let tag = t[2];
-    let at = t[3];
-    time_in(tag, at)
-}
-
-// The row that says an instant or a duration.
-pub fn time_row(m: MaybeTime) -> [u64; 4]
-    ensures { λ r. ⌜ (r ≡ timeRow m) × (firstTime r ≡ m) ⌝ }
-{
-    match m {
-        MaybeTime::None => [0, 0, 0, 0],
-        MaybeTime::Some(t) => [1, t, 0, 0],
-    }
-}
-
-// The sample that a row says.
-pub fn sample_in(t: [u64; 4]) -> Sample
-    ensures { λ r. ⌜ r ≡ sampleIn t ⌝ }
-{
-    let at = t[0];
-    let rtt = t[1];
-    let mark = t[2];
-    let used = !(mark == 0);
+    let at = pick(last, t[2], t[0]);
+    let rtt = pick(last, t[3], t[1]);
     Sample {
         at: at,
         rtt: rtt,
         used: used,
     }
-}
-
-// The row that says a sample.
-pub fn sample_row(s: Sample) -> [u64; 4]
-    ensures { λ r. ⌜ (r ≡ sampleRow s) × (sampleIn r ≡ s) ⌝ }
-{
-    let used = base::flag::flag(s.used);
-    [s.at, s.rtt, used, 0]
 }
 
 // The span that a row says.
@@ -98,32 +51,29 @@ pub fn span_row(s: Span) -> [u64; 4]
     [s.from, s.to, s.rtt, used]
 }
 
-// The ETX that a row says: every pattern of a NaN is the one NaN.
-pub fn etx_in(t: [u64; 4]) -> f64
-    ensures { λ r. ⌜ r ≡ etxIn t ⌝ }
+// The ETX that a word says: every pattern of a NaN is the one NaN.
+pub fn etx_in(w: u64) -> f64
+    ensures { λ r. ⌜ r ≡ etxIn w ⌝ }
 {
-    fields::float_of(t[0])
+    fields::float_of(w)
 }
 
-// The row that says an ETX.
-pub fn etx_row(x: f64) -> [u64; 4]
-    ensures { λ r. ⌜ (r ≡ etxRow x) × (etxIn r ≡ x) ⌝ }
+// The word that says an ETX.
+pub fn etx_word(x: f64) -> u64
+    ensures { λ r. ⌜ (r ≡ etxBits x) × (etxIn r ≡ x) ⌝ }
 {
-    let bits = etx_bits(x);
-    [bits, 0, 0, 0]
+    etx_bits(x)
 }
 
-// The sizes that two rows say.
-pub fn sizes_in(t: [u64; 4], u: [u64; 4]) -> Sizes
-    ensures { λ r. ⌜ r ≡ sizesIn t u ⌝ }
+// The sizes that words say.
+pub fn sizes_in(tag: u64, when: u64, sent: u64, less: u64, most: u64) -> Sizes
+    ensures { λ r. ⌜ r ≡ sizesIn tag when sent less most ⌝ }
 {
-    let set = t[0];
-    let when = t[1];
-    let at = time_in(set, when);
-    let id = low(t[2]);
-    let len = short(t[3]);
-    let lost = short(u[0]);
-    let proven = len_in(u[1]);
+    let at = time_in(tag, when);
+    let id = low(sent);
+    let len = short(sent / 0x1_0000_0000);
+    let lost = short(less);
+    let proven = len_in(most);
     let seek = Seek {
         at: at,
         probe_id: id,
@@ -136,27 +86,18 @@ pub fn sizes_in(t: [u64; 4], u: [u64; 4]) -> Sizes
     }
 }
 
-// The rows that say the sizes.
-pub fn sizes_rows(s: Sizes) -> Two
-    ensures { λ r. ⌜ (r .a ≡ seekRow s) × (r .b ≡ provenRow s) × (sizesIn (r .a) (r .b) ≡ s) ⌝ }
+// The word that says the search's identifier and length.
+pub fn search_word(s: Seek) -> u64
+    ensures { λ r. ⌜ (r ≡ searchWord s) × (r % 2 ^ 32 ≡ s .«probe_id») × (r / 2 ^ 32 % 65536 ≡ s .len) ⌝ }
 {
-    let seek = s.seek;
-    let at = seek.at;
-    let proven = s.proven;
-    let w = time_tag(at);
-    let x = time_value(at);
-    let y = wide(seek.probe_id);
-    let z = wide_len(seek.len);
-    let lost = wide_len(seek.lost);
-    let most = len_word(proven);
-    let a = [w, x, y, z];
-    let b = [lost, most, 0, 0];
-    Two { a: a, b: b }
+    let id = wide(s.probe_id);
+    let len = wide_len(s.len);
+    id + len * 0x1_0000_0000
 }
 
-// The traffic that two rows say.
-pub fn traffic_in(t: [u64; 4], u: [u64; 4]) -> Traffic
-    ensures { λ r. ⌜ r ≡ trafficIn t u ⌝ }
+// The traffic that a row and a word say.
+pub fn traffic_in(t: [u64; 4], counts: u64) -> Traffic
+    ensures { λ r. ⌜ r ≡ trafficIn t counts ⌝ }
 {
     let ha = t[0];
     let hb = t[1];
@@ -164,8 +105,8 @@ pub fn traffic_in(t: [u64; 4], u: [u64; 4]) -> Traffic
     let db = t[3];
     let heard = time_in(ha, hb);
     let carried = time_in(da, db);
-    let frames = low(u[0]);
-    let bytes = low(u[1]);
+    let frames = low(counts);
+    let bytes = low(counts / 0x1_0000_0000);
     Traffic {
         heard_at: heard,
         data_at: carried,
@@ -174,9 +115,9 @@ pub fn traffic_in(t: [u64; 4], u: [u64; 4]) -> Traffic
     }
 }
 
-// The rows that say the traffic.
-pub fn traffic_rows(s: Traffic) -> Two
-    ensures { λ r. ⌜ (r .a ≡ arrivalsRow s) × (r .b ≡ countersRow s) × (trafficIn (r .a) (r .b) ≡ s) ⌝ }
+// The row that says when the last frame and the last session datagram came.
+pub fn arrivals_row(s: Traffic) -> [u64; 4]
+    ensures { λ r. ⌜ r ≡ arrivalsRow s ⌝ }
 {
     let heard = s.heard_at;
     let carried = s.data_at;
@@ -184,37 +125,59 @@ pub fn traffic_rows(s: Traffic) -> Two
     let hb = time_value(heard);
     let da = time_tag(carried);
     let db = time_value(carried);
+    [ha, hb, da, db]
+}
+
+// The word that says frames and bytes.
+pub fn count_word(s: Traffic) -> u64
+    ensures { λ r. ⌜ (r ≡ countWord s) × (r % 2 ^ 32 ≡ s .frames) × (r / 2 ^ 32 % 2 ^ 32 ≡ s .bytes) ⌝ }
+{
     let frames = wide(s.frames);
     let bytes = wide(s.bytes);
-    let a = [ha, hb, da, db];
-    let b = [frames, bytes, 0, 0];
-    Two { a: a, b: b }
+    frames + bytes * 0x1_0000_0000
 }
 
 // The mark of a stop, 2 if a slot is owed.
 fn stop_mark(owed: bool) -> u64
-    ensures { λ r. ⌜ r ≡ 1 + flagOf owed ⌝ }
+    ensures { λ r. ⌜ (r ≡ 1 + flagOf owed) × (r ≤ 2) ⌝ }
 {
     if owed { 2 } else { 1 }
 }
 
-// The rows that say the stop, all 0 with none.
-pub fn stop_rows(m: MaybeStop) -> Two
-    ensures { λ r. ⌜ (r .a ≡ stopRow m) × (r .b ≡ untilRow m) × (stopIn (r .a) (r .b) ≡ m) ⌝ }
+// The mark of until.
+fn until_mark(m: MaybeTime) -> u64
+    ensures { λ r. ⌜ (r ≡ 2 * timeTag m) × (r ≤ 2) ⌝ }
 {
     match m {
-        MaybeStop::None => {
-            let zeros = [0, 0, 0, 0];
-            Two { a: zeros, b: zeros }
-        }
+        MaybeTime::None => 0,
+        MaybeTime::Some(t) => 2,
+    }
+}
+
+// The row that says the stop, all 0 with none.
+pub fn stop_row(m: MaybeStop) -> [u64; 4]
+    ensures { λ r. ⌜ r ≡ stopRow m ⌝ }
+{
+    match m {
+        MaybeStop::None => [0, 0, 0, 0],
         MaybeStop::Some(s) => {
             let until = s.until;
             let mark = stop_mark(s.owed);
-            let tag = time_tag(until);
-            let at = time_value(until);
-            let a = [mark, s.free, s.gap, s.used];
-            let b = [tag, at, 0, 0];
-            Two { a: a, b: b }
+            let more = until_mark(until);
+            [mark + more, s.free, s.gap, s.used]
+        }
+    }
+}
+
+// The word that says until, 0 with none.
+pub fn until_word(m: MaybeStop) -> u64
+    ensures { λ r. ⌜ r ≡ untilWord m ⌝ }
+{
+    match m {
+        MaybeStop::None => 0,
+        MaybeStop::Some(s) => {
+            let until = s.until;
+            time_value(until)
         }
     }
 }

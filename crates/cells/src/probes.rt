@@ -1,9 +1,10 @@
-// Rows of probes: a probe, the identifiers, the ladder, the misses.
+// Rows of probes: a probe, the identifiers; and the ladder's word.
 ghost use mathlib.Core.Path.{_≡_};
-ghost use Prim.Native.Nat.{_<_, _+_};
+ghost use Prim.Native.Nat.{_<_, _≤_, _+_, _*_};
 ghost use mathlib.Core.Bool.{cond};
-ghost use Rattle.cells.specs.Cells.{sentIn, idsIn, ladderIn, missesIn};
-ghost use Rattle.cells.specs.Code.{sentRow, idsRow, ladderRow, missesRow};
+ghost use Rattle.base.specs.Seq.{flagOf};
+ghost use Rattle.cells.specs.Cells.{sentIn, idsIn, ladderIn};
+ghost use Rattle.cells.specs.Code.{sentRow, idsRow, ladderWord};
 use crate::words::*;
 use ring::types::*;
 use seek::types::Ladder;
@@ -75,40 +76,31 @@ pub fn ids_row(m: Ids) -> [u64; 4]
     [a, b, c, d]
 }
 
-// The ladder that a row says.
-pub fn ladder_in(t: [u64; 4]) -> Ladder
-    ensures { λ r. ⌜ r ≡ ladderIn t ⌝ }
+// The ladder that a word says.
+pub fn ladder_in(w: u64) -> Ladder
+    ensures { λ r. ⌜ r ≡ ladderIn w ⌝ }
 {
-    let last = len_in(t[0]);
-    let mark = t[1];
-    let fallen = !(mark == 0);
+    let last = len_in(w % 131072);
+    let fallen = 131072 <= w;
     Ladder {
         last: last,
         fallen: fallen,
     }
 }
 
-// The row that says the ladder.
-pub fn ladder_row(l: Ladder) -> [u64; 4]
-    ensures { λ r. ⌜ (r ≡ ladderRow l) × (ladderIn r ≡ l) ⌝ }
+// A ladder's mark.
+fn fall(fallen: bool) -> u64
+    ensures { λ r. ⌜ (r ≡ 131072 * flagOf fallen) × (r ≤ 131072) ⌝ }
+{
+    if fallen { 131072 } else { 0 }
+}
+
+// The word that says the ladder.
+pub fn ladder_word(l: Ladder) -> u64
+    ensures { λ r. ⌜ (r ≡ ladderWord l) × (ladderIn r ≡ l) ⌝ }
 {
     let m = l.last;
     let last = len_word(m);
-    let fallen = base::flag::flag(l.fallen);
-    [last, fallen, 0, 0]
-}
-
-// The misses that a row says.
-pub fn misses_in(t: [u64; 4]) -> u32
-    ensures { λ r. ⌜ r ≡ missesIn t ⌝ }
-{
-    low(t[0])
-}
-
-// The row that says so many misses.
-pub fn misses_row(n: u32) -> [u64; 4]
-    ensures { λ r. ⌜ (r ≡ missesRow n) × (missesIn r ≡ n) ⌝ }
-{
-    let x = wide(n);
-    [x, 0, 0, 0]
+    let mark = fall(l.fallen);
+    last + mark
 }

@@ -1,8 +1,8 @@
-// Single words: numbers by their width, and what may be missing.
+// Single words: numbers by their width, what may be missing, bits; and a row with a word or a half anew.
 ghost use mathlib.Core.Path.{_≡_};
 ghost use mathlib.Core.Bool.{cond};
-ghost use Prim.Native.Nat.{_%_, _^_, _<_};
-ghost use Rattle.cells.specs.Cells.{withWord, firstTwo, idIn, lengthIn, instantIn};
+ghost use Prim.Native.Nat.{_%_, _^_, _<_, _≤_};
+ghost use Rattle.cells.specs.Cells.{withWord, withHalf, bitIn, withBit, idIn, lengthIn, instantIn};
 ghost use Rattle.cells.specs.Code.{idWord, lenWord};
 use base::types::*;
 
@@ -68,7 +68,7 @@ pub fn len_in(x: u64) -> MaybeLen
 
 // The word that says a length.
 pub fn len_word(m: MaybeLen) -> u64
-    ensures { λ r. ⌜ (r ≡ lenWord m) × (lengthIn r ≡ m) ⌝ }
+    ensures { λ r. ⌜ (r ≡ lenWord m) × (lengthIn r ≡ m) × (r ≤ 65536) ⌝ }
 {
     match m {
         MaybeLen::None => 0,
@@ -88,7 +88,7 @@ pub fn time_in(tag: u64, t: u64) -> MaybeTime
 }
 
 // The first of two words, or the second.
-fn pick(first: bool, x: u64, y: u64) -> u64
+pub fn pick(first: bool, x: u64, y: u64) -> u64
     ensures { λ r. ⌜ r ≡ cond first x y ⌝ }
 {
     if first { x } else { y }
@@ -105,9 +105,31 @@ pub fn put(t: [u64; 4], k: usize, w: u64) -> [u64; 4]
     [a, b, c, d]
 }
 
-// The first two words of a row, and the last two of another.
-pub fn first_two(u: [u64; 4], t: [u64; 4]) -> [u64; 4]
-    ensures { λ r. ⌜ r ≡ firstTwo u t ⌝ }
+// A row with half of it anew: the last two words, or the first two.
+pub fn put_half(t: [u64; 4], last: bool, x: u64, y: u64) -> [u64; 4]
+    ensures { λ r. ⌜ r ≡ withHalf t last x y ⌝ }
 {
-    [u[0], u[1], t[2], t[3]]
+    let a = pick(last, t[0], x);
+    let b = pick(last, t[1], y);
+    let c = pick(last, x, t[2]);
+    let d = pick(last, y, t[3]);
+    [a, b, c, d]
+}
+
+// The bit of a word at a place; place 64 is 0 again.
+pub fn bit_in(m: u64, i: usize) -> bool
+    ensures { λ r. ⌜ r ≡ bitIn m (i % 64) ⌝ }
+{
+    (m >> (i % 64)) % 2 == 1
+}
+
+// A word with the bit at a place anew; place 64 is 0 again.
+pub fn with_bit(m: u64, i: usize, on: bool) -> u64
+    ensures { λ r. ⌜ r ≡ withBit m (i % 64) on ⌝ }
+{
+    let k = i % 64;
+    let bit = base::flag::flag(on);
+    let high = (m >> k) / 2 * 2 + bit;
+    let low = m % (1 << k);
+    (high << k) + low
 }

@@ -14,13 +14,14 @@ use Rattle.rules.specs.declared.types.Settings.{Settings}
 use Rattle.rules.specs.declared.types.Reply as rules
 use Rattle.eventfile.specs.declared.types.Parse.{Parse}
 use Rattle.eventfile.specs.declared.types.Parse.the-variants as parse
+use Rattle.rows.specs.Places.{rowCount}
 use Rattle.rowpeer.specs.Record.{recordIn, Steps}
 use Rattle.entries.specs.declared.Reply.{Reply}
 use Rattle.entries.specs.declared.record.Taken.{Taken}
 
--- words of eight bytes: four of settings, and eight slots of 65 rows of four
+-- words of eight bytes: four of settings, and eight slots of rows of four
 abbrev pub keptBytes : ℕ
-keptBytes = 8 * (4 + 8 * (65 * 4))
+keptBytes = 8 * (4 + 8 * (rowCount * 4))
 
 -- arguments, by name
 abbrev pub settingsWith : ℕ → ℕ → ℕ → ℕ → Settings

@@ -1,4 +1,4 @@
-// A peer record that the caller keeps: four words of settings and eight slots of 65 rows, lent to each call. Any words
+// A peer record that the caller keeps: four words of settings and eight slots of rows, lent to each call. Any words
 // are read by the same rules; nothing is required of them.
 ghost use mathlib.Core.Path.{_≡_};
 ghost use mathlib.Core.Bool.{cond};
@@ -17,6 +17,7 @@ ghost use Rattle.entries.specs.Record.{eventWith, splitReply, StepsHere,
 use crate::Reply;
 use base::types::Refusal;
 use eventfile::types::Parse;
+use rows::places::ROWS;
 use rules::types::Event;
 use rules::types::Settings;
 
@@ -57,14 +58,14 @@ fn split(w: u64) -> Reply
 pub extern "C" fn hess_record_size() -> u64
     ensures { λ r. ⌜ r ≡ keptBytes ⌝ }
 {
-    8 * (4 + 8 * 65 * 4)
+    8 * (4 + 8 * 4 * (ROWS as u64))
 }
 
 // Makes a record of eight empty slots in the lent words; 6 for a setting of 2^62 or more, and nothing is written.
 #[no_mangle]
 pub extern "C" fn hess_record_new(
     settings: &mut [u64; 4],
-    slots: &mut [[[u64; 4]; 65]; 8],
+    slots: &mut [[[u64; 4]; ROWS]; 8],
     cap: u64,
     gap: u64,
     window: u64,
@@ -87,7 +88,7 @@ pub extern "C" fn hess_record_new(
 #[no_mangle]
 pub extern "C" fn hess_record_event(
     settings: &[u64; 4],
-    slots: &mut [[[u64; 4]; 65]; 8],
+    slots: &mut [[[u64; 4]; ROWS]; 8],
     kind: u8,
     slot: u8,
     flags: u8,
@@ -119,7 +120,7 @@ pub extern "C" fn hess_record_event(
 #[no_mangle]
 pub extern "C" fn hess_record_words(
     settings: &[u64; 4],
-    slots: &mut [[[u64; 4]; 65]; 8],
+    slots: &mut [[[u64; 4]; ROWS]; 8],
     event: &[u64; 4],
 ) -> u64
     ensures { λ r. ⌜ Tells (now (settings .entry)) (now (slots .entry)) (now (slots .exit)) r
@@ -144,7 +145,7 @@ fn none_taken(why: Refusal) -> Taken
 #[no_mangle]
 pub extern "C" fn hess_record_bytes(
     settings: &[u64; 4],
-    slots: &mut [[[u64; 4]; 65]; 8],
+    slots: &mut [[[u64; 4]; ROWS]; 8],
     event: &[u8],
 ) -> Taken
     ensures { λ r. let found = parseOf (now (event .entry)) 0 in
@@ -171,7 +172,7 @@ pub extern "C" fn hess_record_bytes(
 // for too few lent bytes; a refusal writes nothing.
 #[no_mangle]
 pub extern "C" fn hess_record_standing(
-    slots: &[[[u64; 4]; 65]; 8],
+    slots: &[[[u64; 4]; ROWS]; 8],
     slot: u8,
     out: &mut [u8],
 ) -> Reply

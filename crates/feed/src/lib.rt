@@ -9,7 +9,7 @@ ghost use Rattle.pathrun.specs.Words.{sessionIn, Runs};
 ghost use Rattle.feed.specs.Feed.{isOver};
 use base::types::Refusal;
 use pathrun::types::*;
-use rows::probes::ROWS;
+use rows::places::ROWS;
 use select::types::PATH_MAX_PER_PEER;
 
 // The lesser of two places, for a part that lies within the lent bytes whatever the places are.

@@ -11,7 +11,7 @@ use libc::STDERR_FILENO;
 use libc::STDIN_FILENO;
 use libc::STDOUT_FILENO;
 use pathrun::types::*;
-use rows::probes::ROWS;
+use rows::places::ROWS;
 use select::types::PATH_MAX_PER_PEER;
 
 // Bytes p to n of `buf` are held. Each turn is a call; one that did not stop for want of room is followed by a read.

@@ -10,7 +10,7 @@ ghost use Rattle.pathrun.specs.Words.{callAt, stoppedAt, Runs};
 use crate::types::*;
 use base::types::Refusal;
 use eventfile::types::Parse;
-use rows::probes::ROWS;
+use rows::places::ROWS;
 use rules::types::*;
 use select::types::PATH_MAX_PER_PEER;
 use turns::reply::number_of;

@@ -8,7 +8,7 @@ use crate::run::run;
 use crate::types::*;
 use base::types::Refusal;
 use eventfile::types::Parse;
-use rows::probes::ROWS;
+use rows::places::ROWS;
 use rules::types::*;
 use select::types::PATH_MAX_PER_PEER;
 use turns::reply::number_of;

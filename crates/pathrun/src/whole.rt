@@ -7,7 +7,7 @@ use crate::session::begin;
 use crate::session::finish;
 use crate::session::step;
 use base::types::Refusal;
-use rows::probes::ROWS;
+use rows::places::ROWS;
 use select::types::PATH_MAX_PER_PEER;
 use standing::types::Written;
 

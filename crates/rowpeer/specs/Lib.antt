@@ -1,3 +1,3 @@
--- A peer record in lent words: four settings, and eight slots of 65 rows.
+-- A peer record in lent words: four settings, and eight slots of rows.
 pub mod Record
 pub mod Calls

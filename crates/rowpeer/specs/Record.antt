@@ -27,12 +27,16 @@ recordIn t a = record { settings = settingsIn t; slots = map slotIn a }
 abbrev pub recordRows : Record → List (List (List ℕ))
 recordRows r = map slotRows (r .slots)
 
--- the slots' words are the encoder's, spare ones and all
+-- the slots' words are the encoder's, to the last bit
 abbrev pub AreCoded : List (List (List ℕ)) → Type 0
 AreCoded a = map slotRows (map slotIn a) ≡ a
 
--- an event: its answer x and the record after it are those of the rules' step; whatever the words, those of every other
--- slot are left, and so are all by a choose; what was the encoder's is the encoder's; and a refusal leaves every word
+-- an event: its answer x and the record after it are those of the rules' step. Of any words at all these are fixed:
+-- every word of every other slot is left, and every word by a choose and by a refusal; of the event's own slot every bit
+-- that is read, since the words after it say the step's record, and no row has a word to spare. What is not fixed of any
+-- words is a bit of that slot that is not read: behind a mark that does not say it is there, above a number's width, of a
+-- mark beside what is read of it, of a NaN's pattern. Where the words were the encoder's, they are the encoder's after it,
+-- and such a bit is fixed too
 pub record Steps (t : List ℕ) (a b : List (List (List ℕ))) (x : Reply) (e : Event) : Type 0 where
   pub answer : x ≡ step (recordIn t a) e .reply
   pub next : recordIn t b ≡ step (recordIn t a) e .next

@@ -8,7 +8,7 @@ ghost use Rattle.choosing.specs.Choosing.{chosenOf};
 ghost use Rattle.rows.specs.View.{slotIn};
 use base::types::Refusal;
 use choosing::*;
-use rows::probes::ROWS;
+use rows::places::ROWS;
 use rules::types::Reply;
 use select::types::*;
 

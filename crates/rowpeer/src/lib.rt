@@ -1,4 +1,4 @@
-// A peer record in lent words: four settings, and eight slots of 65 rows.
+// A peer record in lent words: four settings, and eight slots of rows.
 ghost use Rattle.rowpeer.specs.Calls.{CallsHold};
 
 pub mod choice;

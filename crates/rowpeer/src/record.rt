@@ -12,7 +12,7 @@ ghost use Rattle.rowpeer.specs.Record.{recordRows, beyondOf, Steps, Tell
 use crate::choice::chosen;
 use crate::choice::slots;
 use base::types::Refusal;
-use rows::probes::ROWS;
+use rows::places::ROWS;
 use rules::types::*;
 use select::types::PATH_MAX_PER_PEER;
 use turns::refuse::*;

@@ -6,7 +6,7 @@ ghost use Rattle.standing.specs.Standing.{slotWritten, slotOut};
 ghost use Rattle.rows.specs.View.{slotIn};
 use crate::choice::slots;
 use base::types::Refusal;
-use rows::probes::ROWS;
+use rows::places::ROWS;
 use select::types::PATH_MAX_PER_PEER;
 use standing::types::Written;
 

@@ -31,6 +31,7 @@ use Rattle.rules.specs.declared.types.Polling.{Polling}
 use Rattle.rules.specs.declared.types.Reply.the-variants as reply
 use Rattle.works.specs.Works.{wholePoll}
 use Rattle.works.proofs.PollLaws.{Polled, polled-start, polled-none, polled-next, polled-end}
+use Rattle.rows.specs.Places.{rowCount}
 use Rattle.rows.specs.View.{pathIn, slotIn}
 use Rattle.rows.specs.Says.{Says, Turns}
 use Rattle.rows.proofs.SaysLaws.{says-none, says-then, says-as, turns-by, turns-as}
@@ -46,7 +47,7 @@ pub record ScanTo (p : Sent → Bool) (f : Sent → MaybeTime) (a b : List (List
   pub ring : Scanning p f (pathIn a .ring) 8 (pathIn b .ring)
 
 -- nothing is deferred yet
-pub scan-start : (cap at : ℕ) (overdue : Bool) (t : MaybeTime) (a : List (List ℕ)) → length a ≡ 65
+pub scan-start : (cap at : ℕ) (overdue : Bool) (t : MaybeTime) (a : List (List ℕ)) → length a ≡ rowCount
     → ScanTo (isPassed at overdue) (deferOf t cap at overdue) a a
 scan-start cap at overdue t a h =
     record { says = says-none refl; ring = record { sound = not-passed cap at overdue t; long = ring-length a h; same = refl } }

@@ -14,6 +14,7 @@ use base::types::*;
 use ring::types::*;
 use rowring::search::*;
 use rowring::store::*;
+use rows::places::*;
 use rows::probes::*;
 use rules::types::*;
 use seek::types::Ladder;

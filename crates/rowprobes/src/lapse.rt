@@ -16,6 +16,7 @@ use ring::lapse::is_passed;
 use ring::types::*;
 use rowring::store::*;
 use rows::measures::data_at;
+use rows::places::*;
 use rows::probes::*;
 use seek::types::Ladder;
 

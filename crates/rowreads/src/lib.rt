@@ -8,6 +8,7 @@ use base::types::*;
 use choosing::*;
 use ring::types::Ids;
 use rows::measures::*;
+use rows::places::*;
 use rows::probes::*;
 use rows::whole::*;
 use rowtimes::trips::*;

@@ -13,6 +13,7 @@ use Rattle.ring.specs.declared.types.Sent.{Sent}
 use Rattle.ring.proofs.SweepLaws.{shifted}
 use Rattle.live.specs.Path.{withLate}
 use Rattle.live.specs.declared.types.Liveness.{Liveness}
+use Rattle.rows.specs.Places.{rowCount}
 use Rattle.rows.specs.Parts.{moved}
 use Rattle.rows.specs.View.{pathIn}
 use Rattle.rows.specs.Says.{Says}
@@ -26,7 +27,7 @@ late-next : {a b c : List (List ℕ)} (l : List Sent) (i : ℕ) (x : Sent) → S
     → Says b c (withLate (pathIn b) (set (pathIn b .late) i x)) → Says a c (withLate (pathIn a) (set l i x))
 late-next l i x s t = says-on (λ (v : Liveness). withLate v (set (v .late) i x)) s t
 
-module _ (a : List (List ℕ)) (n : length a ≡ 65) {b c d e : List (List ℕ)} {x y z : Sent} (s : Sent)
+module _ (a : List (List ℕ)) (n : length a ≡ rowCount) {b c d e : List (List ℕ)} {x y z : Sent} (s : Sent)
     (f : Says a b (withLate (pathIn a) (set (pathIn a .late) 0 x)))
     (g : Says b c (withLate (pathIn b) (set (pathIn b .late) 1 y)))
     (h : Says c d (withLate (pathIn c) (set (pathIn c .late) 2 z)))
@@ -50,7 +51,7 @@ other {a} i k x s h =
     ap (λ (v : Liveness). getD (v .late) k noSent) (s .path) ∙ getD-set-other (pathIn a .late) i k x noSent (eqb-false k i h)
 
 -- one more, everything moved one place
-pub late-shifted : (a : List (List ℕ)) (n : length a ≡ 65) {b c d e : List (List ℕ)} (s : Sent)
+pub late-shifted : (a : List (List ℕ)) (n : length a ≡ rowCount) {b c d e : List (List ℕ)} (s : Sent)
     → Says a b (withLate (pathIn a) (moved (pathIn a .late) 1 0)) → Says b c (withLate (pathIn b) (moved (pathIn b .late) 2 1))
     → Says c d (withLate (pathIn c) (moved (pathIn c .late) 3 2)) → Says d e (withLate (pathIn d) (set (pathIn d .late) 3 s))
     → Says a e (withLate (pathIn a) (remembered (pathIn a .late) s))

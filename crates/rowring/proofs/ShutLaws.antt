@@ -18,6 +18,7 @@ use Rattle.ring.specs.declared.types.Sent.{Sent}
 use Rattle.live.specs.Path.{withRing, withIds}
 use Rattle.live.specs.declared.types.Liveness.{Liveness}
 use Rattle.cells.specs.Cells.{withId}
+use Rattle.rows.specs.Places.{rowCount}
 use Rattle.rows.specs.Parts.{moved}
 use Rattle.rows.specs.View.{pathIn}
 use Rattle.rows.specs.Says.{Says}
@@ -66,7 +67,7 @@ pub record Shut (a : List (List ℕ)) (slot : ℕ) (b : List (List ℕ)) (w r : 
   pub ring : Closing isUsed (set (pathIn a .ring) slot noSent) (pathIn a .ring) 8 (pathIn b .ring) w r
 
 -- nothing is moved yet
-pub shut-start : {a : List (List ℕ)} {slot : ℕ} → length a ≡ 65 → Shut a slot a 0 0
+pub shut-start : {a : List (List ℕ)} {slot : ℕ} → length a ≡ rowCount → Shut a slot a 0 0
 shut-start {a} {slot} h =
     let n = ring-length a h in
     record { says = says-none refl; ring = closing-start (length-set (pathIn a .ring) slot noSent ∙ n) n }
@@ -108,7 +109,7 @@ pub record Freed (a : List (List ℕ)) (n : ℕ) (b : List (List ℕ)) (k : ℕ)
   pub ring : Clearing noSent (take (min n 8) (pathIn a .ring)) 8 (pathIn b .ring) (min (max n k) 8)
 
 -- no place is freed yet
-pub freed-start : {a : List (List ℕ)} {n : ℕ} → length a ≡ 65 → Freed a n a 0
+pub freed-start : {a : List (List ℕ)} {n : ℕ} → length a ≡ rowCount → Freed a n a 0
 freed-start {a} {n} h =
     let l = ring-length a h in
     let m : min (max n 0) 8 ≡ min n 8 = omega arith in

@@ -7,6 +7,7 @@ use base::types::*;
 use ring::ring::fine;
 use ring::ring::is_probe;
 use ring::types::*;
+use rows::places::*;
 use rows::probes::*;
 
 // The place of the first entry of the ring that is free, or 8.

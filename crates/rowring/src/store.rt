@@ -10,6 +10,7 @@ ghost use Rattle.rowring.specs.Steps.{others, pressed, freedFrom};
 use crate::search::is_dropped;
 use base::types::MaybeId;
 use ring::types::*;
+use rows::places::*;
 use rows::probes::*;
 
 // Moves the waiting probes but the one at a place to the front of the ring, in their order, and counts them.

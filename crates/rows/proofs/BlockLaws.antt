@@ -64,7 +64,3 @@ eight l d h =
 -- each element stored anew
 pub refill4 : {A : Type 0} (l : List A) (a b c e d : A) → length l ≡ 4 → set (set (set (set l 0 a) 1 b) 2 c) 3 e ≡ a ∷ b ∷ c ∷ e ∷ []
 refill4 l a b c e d h = ap (λ (x : List _). set (set (set (set x 0 a) 1 b) 2 c) 3 e) (sym (four l d h))
-
-pub refill8 : {A : Type 0} (l : List A) (a b c e f g i j d : A) → length l ≡ 8
-    → set (set (set (set (set (set (set (set l 0 a) 1 b) 2 c) 3 e) 4 f) 5 g) 6 i) 7 j ≡ a ∷ b ∷ c ∷ e ∷ f ∷ g ∷ i ∷ j ∷ []
-refill8 l a b c e f g i j d h = ap (λ (x : List _). set (set (set (set (set (set (set (set x 0 a) 1 b) 2 c) 3 e) 4 f) 5 g) 6 i) 7 j) (sym (eight l d h))

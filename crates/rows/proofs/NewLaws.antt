@@ -12,11 +12,13 @@ use Rattle.live.specs.Path.{withEtx}
 use Rattle.rules.specs.Rules.{noLabel, emptySlot}
 use Rattle.rules.specs.declared.types.Label.{Label}
 use Rattle.rules.specs.declared.types.Slot.{Slot}
-use Rattle.cells.specs.Cells.{sentIn, idsIn, firstTime, stopIn, sizesIn, ladderIn, trafficIn, missesIn, etxIn, sampleIn}
-use Rattle.cells.specs.Cells.{spanIn, labelIn, usedIn}
-use Rattle.cells.specs.Code.{sentRow, idsRow, timeRow, stopRow, untilRow, seekRow, provenRow, ladderRow, arrivalsRow}
-use Rattle.cells.specs.Code.{countersRow, missesRow, etxRow, sampleRow, spanRow, markRow}
-use Rattle.cells.proofs.RowLaws.{etx-says, label-says, used-says}
+use Rattle.image.specs.Image.{etxBits}
+use Rattle.cells.specs.Cells.{sentIn, idsIn, stopIn, sizesIn, ladderIn, trafficIn, missesIn, etxIn, spanIn, labelOf, labelIn}
+use Rattle.cells.specs.Cells.{usedIn}
+use Rattle.cells.specs.Code.{sentRow, idsRow, clocksRow, stopRow, untilWord, tripsRow, searchWord, searchRow, ladderWord}
+use Rattle.cells.specs.Code.{arrivalsRow, countWord, labelWord, marksRow, spanRow}
+use Rattle.cells.proofs.RowLaws.{etx-says, label-says}
+use Rattle.rows.specs.Places.{tripsAt, marksAt}
 use Rattle.rows.specs.View.{ringIn, lateIn, samplesIn, spansIn, pathIn, slotIn}
 use Rattle.rows.specs.Encode.{slotRows, emptyRows}
 
@@ -28,24 +30,33 @@ one = ofBits binary64 0x3ff0_0000_0000_0000
 abbrev pub newSlot : Bool → Label → Slot
 newSlot used l = record { path = newLiveness; label = l; used = used }
 
+-- its rows that are not 0
+abbrev etxRow : ℕ → List ℕ
+etxRow w = 0 ∷ w ∷ 0 ∷ 0 ∷ []
+
+abbrev labelRow : ℕ → List ℕ
+labelRow w = 0 ∷ 0 ∷ w ∷ 0 ∷ []
+
 -- the words
-new-words : (used : Bool) (l : Label) → set (set emptyRows 22 (etxRow one)) 64 (markRow used l) ≡ slotRows (newSlot used l)
-unfolding slotRows emptyRows sentRow idsRow timeRow stopRow untilRow seekRow provenRow ladderRow arrivalsRow countersRow missesRow sampleRow spanRow
+new-words : (used : Bool) (l : Label)
+    → set (set emptyRows tripsAt (etxRow (etxBits one))) marksAt (labelRow (labelWord used l)) ≡ slotRows (newSlot used l)
+unfolding slotRows emptyRows sentRow idsRow clocksRow stopRow untilWord tripsRow searchWord searchRow ladderWord arrivalsRow countWord marksRow spanRow
 new-words used l = refl
 
 -- what they say
-new-says : (e m : List ℕ) → slotIn (set (set emptyRows 22 e) 64 m)
+new-says : (e m : ℕ) → slotIn (set (set emptyRows tripsAt (etxRow e)) marksAt (labelRow m))
     ≡ record { path = withEtx newLiveness (etxIn e); label = labelIn m; used = usedIn m }
-unfolding pathIn ringIn lateIn samplesIn spansIn emptyRows sentIn idsIn firstTime stopIn sizesIn ladderIn trafficIn missesIn sampleIn spanIn
+unfolding pathIn ringIn lateIn samplesIn spansIn emptyRows sentIn idsIn stopIn sizesIn ladderIn trafficIn missesIn spanIn
 new-says e m = refl
 
 -- both, of rows that were made so
-pub new-made : (used : Bool) (l : Label) {p : List (List ℕ)} {e m : List ℕ} → p ≡ emptyRows → (e ≡ etxRow one) × (etxIn e ≡ one)
-    → (m ≡ markRow used l) × (usedIn m ≡ used) × (labelIn m ≡ l)
-    → (set (set p 22 e) 64 m ≡ slotRows (newSlot used l)) × (slotIn (set (set p 22 e) 64 m) ≡ newSlot used l)
+pub new-made : (used : Bool) (l : Label) {p : List (List ℕ)} {e m : ℕ} → p ≡ emptyRows → (e ≡ etxBits one) × (etxIn e ≡ one)
+    → (m ≡ labelWord used l) × (usedIn m ≡ used) × (labelIn m ≡ l)
+    → (set (set p tripsAt (etxRow e)) marksAt (labelRow m) ≡ slotRows (newSlot used l))
+    × (slotIn (set (set p tripsAt (etxRow e)) marksAt (labelRow m)) ≡ newSlot used l)
 new-made used l {p} {e} {m} a b c = (
-  (λ k. set (set (a k) 22 (b .0 k)) 64 (c .0 k)) ∙ new-words used l,
-  (λ k. slotIn (set (set (a k) 22 e) 64 m)) ∙ new-says e m
+  (λ k. set (set (a k) tripsAt (etxRow (b .0 k))) marksAt (labelRow (c .0 k))) ∙ new-words used l,
+  (λ k. slotIn (set (set (a k) tripsAt (etxRow e)) marksAt (labelRow m))) ∙ new-says e m
       ∙ (λ k. record { path = withEtx newLiveness (b .1 k); label = c .2 k; used = c .1 k }),
 )
 
@@ -53,16 +64,13 @@ new-made used l {p} {e} {m} a b c = (
 pub empty-says : slotIn (slotRows emptySlot) ≡ emptySlot
 unfolding fits ofBits
 empty-says =
-    ap slotIn (sym (new-words false noLabel)) ∙ new-says (etxRow one) (markRow false noLabel)
-    ∙ (λ k. record {
-      path = withEtx newLiveness (etx-says one tt k);
-      label = label-says false noLabel (omega arith) k;
-      used = used-says false noLabel k;
-    })
+    let w = label-says false noLabel (omega arith) in
+    ap slotIn (sym (new-words false noLabel)) ∙ new-says (etxBits one) (labelWord false noLabel)
+    ∙ (λ k. record { path = withEtx newLiveness (etx-says one tt k); label = w .1 k; used = w .0 k })
 
 -- a new slot whose label is that of zeros is empty
-pub empty-made : {l : Label} {p : List (List ℕ)} → l ≡ labelIn (0 ∷ 0 ∷ 0 ∷ 0 ∷ [])
+pub empty-made : {l : Label} {p : List (List ℕ)} → l ≡ labelIn 0
     → (p ≡ slotRows (newSlot false l)) × (slotIn p ≡ newSlot false l) → (p ≡ slotRows emptySlot) × (slotIn p ≡ emptySlot)
-unfolding labelIn
+unfolding labelOf
 empty-made e f =
     (f .0 ∙ ap (λ (x : Label). slotRows (newSlot false x)) e, f .1 ∙ ap (λ (x : Label). newSlot false x) e)

@@ -1,4 +1,5 @@
--- A slot of a record in 65 rows of four words.
+-- A slot of a record in rows of four words.
+pub mod Places
 pub mod Parts
 pub mod View
 pub mod Encode

@@ -7,13 +7,13 @@ use Rattle.live.specs.declared.types.Liveness.{Liveness}
 use Rattle.rules.specs.declared.types.Reply.{Reply}
 use Rattle.rules.specs.declared.types.Reply.the-variants as reply
 use Rattle.rules.specs.declared.types.Turn.{Turn}
-use Rattle.rows.specs.View.{row, pathIn, slotIn}
+use Rattle.rows.specs.View.{pathIn, marksIn, slotIn}
 use Rattle.rows.specs.Encode.{IsCoded}
 
 -- a part stored: the path is q after it, the slot's marks stay, and what was the encoder's is the encoder's
 pub record Says (a b : List (List ℕ)) (q : Liveness) : Type 0 where
   pub path : pathIn b ≡ q
-  pub marks : row b 64 ≡ row a 64
+  pub marks : marksIn b ≡ marksIn a
   pub coded : IsCoded a → IsCoded b
 
 -- a refusal

@@ -1,4 +1,5 @@
-// A slot of a record in 65 lent rows of four words, which are changed in place.
+// A slot of a record in lent rows of four words, which are changed in place.
 pub mod measures;
+pub mod places;
 pub mod probes;
 pub mod whole;

@@ -1,4 +1,4 @@
-// The places of what a path measures in a slot's rows: sizes, traffic, ETX, round trips. A store leaves all else; a
+// The places of what a path measures in a slot's rows: sizes, the stop, traffic, ETX, round trips. A store leaves all else; a
 // place that is not there reads as a gap, and a store to it changes nothing.
 ghost use mathlib.Core.Path.{_≡_};
 ghost use lib.ListN.{set, getD};
@@ -6,12 +6,15 @@ ghost use Rattle.rtt.specs.Samples.{noSample};
 ghost use Rattle.rtt.specs.Spans.{noSpan};
 ghost use Rattle.live.specs.Path.{withSizes, withTraffic, withEtx};
 ghost use Rattle.rows.specs.Parts.{withProven, withSeekIn, withStop, withSamples, withSpans, withTrip};
-ghost use Rattle.rows.specs.View.{pathIn};
+ghost use Rattle.rows.specs.Places.{tripsAt};
+ghost use Rattle.rows.specs.View.{pathIn, withCell};
 ghost use Rattle.rows.specs.Says.{Says};
+use crate::places::*;
 use crate::probes::*;
 use base::types::*;
 use cells::measures::*;
 use cells::words::*;
+use image::words::*;
 use live::types::Traffic;
 use rtt::types::*;
 use seek::types::*;
@@ -21,9 +24,9 @@ use stop::types::MaybeStop;
 pub fn sizes(p: &[[u64; 4]; ROWS]) -> Sizes
     ensures { λ r. ⌜ r ≡ pathIn (now (p .entry)) .sizes ⌝ }
 {
-    let t = p[16];
-    let u = p[17];
-    sizes_in(t, u)
+    let t = p[CLOCKS_AT];
+    let u = p[SEARCH_AT];
+    sizes_in(t[2], t[3], u[0], u[1], u[2])
 }
 
 // Stores the sizes with the search.
@@ -31,13 +34,21 @@ pub fn set_sizes(p: &mut [[u64; 4]; ROWS], s: Sizes)
     ensures { λ r. ⌜ Says (now (p .entry)) (now (p .exit)) (withSizes (pathIn (now (p .entry))) s) ⌝ }
 {
     rows(p);
-    let u = p[17];
-    let t = sizes_rows(s);
-    let a = t.a;
-    let b = t.b;
-    let v = first_two(b, u);
-    p[16] = a;
-    p[17] = v;
+    let t = p[CLOCKS_AT];
+    let u = p[SEARCH_AT];
+    let seek = s.seek;
+    let at = seek.at;
+    let proven = s.proven;
+    let tag = time_tag(at);
+    let when = time_value(at);
+    let sent = search_word(seek);
+    let lost = wide_len(seek.lost);
+    let most = len_word(proven);
+    let a = put_half(t, true, tag, when);
+    let b = put_half(u, false, sent, lost);
+    let v = put(b, 2, most);
+    p[CLOCKS_AT] = a;
+    p[SEARCH_AT] = v;
 }
 
 // Stores the proven size.
@@ -45,10 +56,10 @@ pub fn set_proven(p: &mut [[u64; 4]; ROWS], m: MaybeLen)
     ensures { λ r. ⌜ Says (now (p .entry)) (now (p .exit)) (withProven (pathIn (now (p .entry))) m) ⌝ }
 {
     rows(p);
-    let t = p[17];
+    let t = p[SEARCH_AT];
     let w = len_word(m);
-    let v = put(t, 1, w);
-    p[17] = v;
+    let v = put(t, 2, w);
+    p[SEARCH_AT] = v;
 }
 
 // Stores the search.
@@ -56,18 +67,17 @@ pub fn set_seek(p: &mut [[u64; 4]; ROWS], s: Seek)
     ensures { λ r. ⌜ Says (now (p .entry)) (now (p .exit)) (withSeekIn (pathIn (now (p .entry))) s) ⌝ }
 {
     rows(p);
-    let u = p[17];
-    let none = MaybeLen::None;
-    let bare = Sizes {
-        seek: s,
-        proven: none,
-    };
-    let t = sizes_rows(bare);
-    let a = t.a;
-    let b = t.b;
-    let v = put(u, 0, b[0]);
-    p[16] = a;
-    p[17] = v;
+    let t = p[CLOCKS_AT];
+    let u = p[SEARCH_AT];
+    let at = s.at;
+    let tag = time_tag(at);
+    let when = time_value(at);
+    let sent = search_word(s);
+    let lost = wide_len(s.lost);
+    let a = put_half(t, true, tag, when);
+    let v = put_half(u, false, sent, lost);
+    p[CLOCKS_AT] = a;
+    p[SEARCH_AT] = v;
 }
 
 // Stores the stop.
@@ -75,20 +85,21 @@ pub fn set_stop(p: &mut [[u64; 4]; ROWS], m: MaybeStop)
     ensures { λ r. ⌜ Says (now (p .entry)) (now (p .exit)) (withStop (pathIn (now (p .entry))) m) ⌝ }
 {
     rows(p);
-    let t = stop_rows(m);
-    let a = t.a;
-    let b = t.b;
-    p[14] = a;
-    p[15] = b;
+    let t = p[TRIPS_AT];
+    let a = stop_row(m);
+    let w = until_word(m);
+    let v = put(t, 0, w);
+    p[STOP_AT] = a;
+    p[TRIPS_AT] = v;
 }
 
 // The frames received.
 pub fn traffic(p: &[[u64; 4]; ROWS]) -> Traffic
     ensures { λ r. ⌜ r ≡ pathIn (now (p .entry)) .traffic ⌝ }
 {
-    let t = p[19];
-    let u = p[20];
-    traffic_in(t, u)
+    let t = p[ARRIVALS_AT];
+    let m = p[MARKS_AT];
+    traffic_in(t, m[0])
 }
 
 // Stores the frames received.
@@ -96,29 +107,38 @@ pub fn set_traffic(p: &mut [[u64; 4]; ROWS], s: Traffic)
     ensures { λ r. ⌜ Says (now (p .entry)) (now (p .exit)) (withTraffic (pathIn (now (p .entry))) s) ⌝ }
 {
     rows(p);
-    let u = p[20];
-    let t = traffic_rows(s);
-    let a = t.a;
-    let b = t.b;
-    let v = first_two(b, u);
-    p[19] = a;
-    p[20] = v;
+    let m = p[MARKS_AT];
+    let a = arrivals_row(s);
+    let w = count_word(s);
+    let v = put(m, 0, w);
+    p[ARRIVALS_AT] = a;
+    p[MARKS_AT] = v;
 }
 
 // When the last session datagram came.
 pub fn data_at(p: &[[u64; 4]; ROWS]) -> MaybeTime
     ensures { λ r. ⌜ r ≡ pathIn (now (p .entry)) .traffic .«data_at» ⌝ }
 {
-    let t = p[19];
-    second_time(t)
+    let t = p[ARRIVALS_AT];
+    time_in(t[2], t[3])
 }
 
 // The ETX.
 pub fn etx(p: &[[u64; 4]; ROWS]) -> f64
     ensures { λ r. ⌜ r ≡ pathIn (now (p .entry)) .etx ⌝ }
 {
-    let t = p[22];
-    etx_in(t)
+    let t = p[TRIPS_AT];
+    etx_in(t[1])
+}
+
+// Stores the word of an ETX.
+pub fn set_etx_word(p: &mut [[u64; 4]; ROWS], w: u64)
+    ensures { λ r. ⌜ now (p .exit) ≡ withCell (now (p .entry)) tripsAt 1 w ⌝ }
+{
+    rows(p);
+    let t = p[TRIPS_AT];
+    let v = put(t, 1, w);
+    p[TRIPS_AT] = v;
 }
 
 // Stores the ETX.
@@ -126,18 +146,16 @@ pub fn set_etx(p: &mut [[u64; 4]; ROWS], x: f64)
     ensures { λ r. ⌜ Says (now (p .entry)) (now (p .exit)) (withEtx (pathIn (now (p .entry))) x) ⌝ }
 {
     rows(p);
-    let t = p[22];
-    let u = etx_row(x);
-    let v = put(t, 0, u[0]);
-    p[22] = v;
+    let w = etx_word(x);
+    set_etx_word(p, w);
 }
 
 // The latest round trip.
 pub fn trip(p: &[[u64; 4]; ROWS]) -> MaybeTime
     ensures { λ r. ⌜ r ≡ pathIn (now (p .entry)) .rtts .rtt ⌝ }
 {
-    let t = p[23];
-    first_time(t)
+    let t = p[TRIPS_AT];
+    time_in(t[2], t[3])
 }
 
 // Stores the latest round trip.
@@ -145,10 +163,11 @@ pub fn set_trip(p: &mut [[u64; 4]; ROWS], m: MaybeTime)
     ensures { λ r. ⌜ Says (now (p .entry)) (now (p .exit)) (withTrip (pathIn (now (p .entry))) m) ⌝ }
 {
     rows(p);
-    let t = p[23];
-    let u = time_row(m);
-    let v = first_two(u, t);
-    p[23] = v;
+    let t = p[TRIPS_AT];
+    let tag = time_tag(m);
+    let at = time_value(m);
+    let v = put_half(t, true, tag, at);
+    p[TRIPS_AT] = v;
 }
 
 // The sample at a place of the window.
@@ -159,8 +178,10 @@ pub fn sample(p: &[[u64; 4]; ROWS], i: usize) -> Sample
     if SAMPLES <= i {
         return Sample::none();
     }
-    let t = p[24 + i];
-    sample_in(t)
+    let t = p[SAMPLES_AT + i / 2];
+    let m = p[MARKS_AT];
+    let used = bit_in(m[1], i);
+    sample_in(t, i % 2 == 1, used)
 }
 
 // Stores a sample at a place of the window.
@@ -172,8 +193,13 @@ pub fn set_sample(p: &mut [[u64; 4]; ROWS], i: usize, s: Sample)
     if SAMPLES <= i {
         return;
     }
-    let t = sample_row(s);
-    p[24 + i] = t;
+    let t = p[SAMPLES_AT + i / 2];
+    let m = p[MARKS_AT];
+    let u = put_half(t, i % 2 == 1, s.at, s.rtt);
+    let w = with_bit(m[1], i, s.used);
+    let v = put(m, 1, w);
+    p[SAMPLES_AT + i / 2] = u;
+    p[MARKS_AT] = v;
 }
 
 // The span at a place of the horizon.
@@ -184,7 +210,7 @@ pub fn span(p: &[[u64; 4]; ROWS], i: usize) -> Span
     if SPANS <= i {
         return Span::none();
     }
-    let t = p[56 + i];
+    let t = p[SPANS_AT + i];
     span_in(t)
 }
 
@@ -198,5 +224,5 @@ pub fn set_span(p: &mut [[u64; 4]; ROWS], i: usize, s: Span)
         return;
     }
     let t = span_row(s);
-    p[56 + i] = t;
+    p[SPANS_AT + i] = t;
 }

@@ -6,17 +6,16 @@ ghost use Rattle.ring.specs.Ring.{noSent};
 ghost use Rattle.cells.specs.Cells.{withId};
 ghost use Rattle.live.specs.Path.{withRing, withLate, withIds, withLadder, withMisses};
 ghost use Rattle.rows.specs.Parts.{withQuiet, moved};
+ghost use Rattle.rows.specs.Places.{rowCount};
 ghost use Rattle.rows.specs.View.{pathIn};
 ghost use Rattle.rows.specs.Says.{Says};
+use crate::places::*;
 use base::types::*;
-use cells::measures::*;
 use cells::probes::*;
 use cells::words::*;
+use image::words::*;
 use ring::types::*;
 use seek::types::Ladder;
-
-// The rows of a slot.
-pub const ROWS: usize = 65;
 
 // How many rows are lent.
 fn count(q: &[[u64; 4]]) -> usize
@@ -25,9 +24,9 @@ fn count(q: &[[u64; 4]]) -> usize
     q.len()
 }
 
-// A slot has 65 rows: a call of this says it to a proof, and costs nothing.
+// A slot has so many rows: a call of this says it to a proof, and costs nothing.
 pub fn rows(p: &[[u64; 4]; ROWS]) -> usize
-    ensures { λ r. ⌜ (r ≡ 65) × (length (now (p .entry)) ≡ 65) ⌝ }
+    ensures { λ r. ⌜ (r ≡ rowCount) × (length (now (p .entry)) ≡ rowCount) ⌝ }
 {
     count(p)
 }
@@ -83,7 +82,7 @@ pub fn late(p: &[[u64; 4]; ROWS], i: usize) -> Sent
     if LATE <= i {
         return ring::ring::none();
     }
-    let t = p[8 + i];
+    let t = p[LATES_AT + i];
     sent_in(t)
 }
 
@@ -97,7 +96,7 @@ pub fn set_late(p: &mut [[u64; 4]; ROWS], i: usize, s: Sent)
         return;
     }
     let t = sent_row(s);
-    p[8 + i] = t;
+    p[LATES_AT + i] = t;
 }
 
 // Stores the probe at a place of the late list at another.
@@ -114,15 +113,15 @@ pub fn move_late(p: &mut [[u64; 4]; ROWS], from: usize, to: usize)
     if LATE <= to {
         return;
     }
-    let t = p[8 + from];
-    p[8 + to] = t;
+    let t = p[LATES_AT + from];
+    p[LATES_AT + to] = t;
 }
 
 // The identifiers.
 pub fn ids(p: &[[u64; 4]; ROWS]) -> Ids
     ensures { λ r. ⌜ r ≡ pathIn (now (p .entry)) .ids ⌝ }
 {
-    let t = p[12];
+    let t = p[IDS_AT];
     ids_in(t)
 }
 
@@ -132,7 +131,7 @@ pub fn set_ids(p: &mut [[u64; 4]; ROWS], m: Ids)
 {
     rows(p);
     let t = ids_row(m);
-    p[12] = t;
+    p[IDS_AT] = t;
 }
 
 // Stores one of the identifiers, by its place in their row: next, answered, epoch, since.
@@ -141,18 +140,18 @@ pub fn set_id(p: &mut [[u64; 4]; ROWS], k: usize, m: MaybeId)
         (withIds (pathIn (now (p .entry))) (withId (pathIn (now (p .entry)) .ids) k m)) ⌝ }
 {
     rows(p);
-    let t = p[12];
+    let t = p[IDS_AT];
     let w = id_word(m);
     let u = put(t, k, w);
-    p[12] = u;
+    p[IDS_AT] = u;
 }
 
 // The silence clock.
 pub fn quiet(p: &[[u64; 4]; ROWS]) -> MaybeTime
     ensures { λ r. ⌜ r ≡ pathIn (now (p .entry)) .silence .quiet ⌝ }
 {
-    let t = p[13];
-    first_time(t)
+    let t = p[CLOCKS_AT];
+    time_in(t[0], t[1])
 }
 
 // Stores the silence clock.
@@ -160,18 +159,19 @@ pub fn set_quiet(p: &mut [[u64; 4]; ROWS], m: MaybeTime)
     ensures { λ r. ⌜ Says (now (p .entry)) (now (p .exit)) (withQuiet (pathIn (now (p .entry))) m) ⌝ }
 {
     rows(p);
-    let t = p[13];
-    let u = time_row(m);
-    let v = first_two(u, t);
-    p[13] = v;
+    let t = p[CLOCKS_AT];
+    let tag = time_tag(m);
+    let at = time_value(m);
+    let v = put_half(t, false, tag, at);
+    p[CLOCKS_AT] = v;
 }
 
 // The ladder.
 pub fn ladder(p: &[[u64; 4]; ROWS]) -> Ladder
     ensures { λ r. ⌜ r ≡ pathIn (now (p .entry)) .ladder ⌝ }
 {
-    let t = p[18];
-    ladder_in(t)
+    let t = p[SEARCH_AT];
+    ladder_in(t[3])
 }
 
 // Stores the ladder.
@@ -179,18 +179,18 @@ pub fn set_ladder(p: &mut [[u64; 4]; ROWS], l: Ladder)
     ensures { λ r. ⌜ Says (now (p .entry)) (now (p .exit)) (withLadder (pathIn (now (p .entry))) l) ⌝ }
 {
     rows(p);
-    let t = p[18];
-    let u = ladder_row(l);
-    let v = first_two(u, t);
-    p[18] = v;
+    let t = p[SEARCH_AT];
+    let w = ladder_word(l);
+    let v = put(t, 3, w);
+    p[SEARCH_AT] = v;
 }
 
 // The misses.
 pub fn misses(p: &[[u64; 4]; ROWS]) -> u32
     ensures { λ r. ⌜ r ≡ pathIn (now (p .entry)) .misses ⌝ }
 {
-    let t = p[21];
-    misses_in(t)
+    let t = p[MARKS_AT];
+    low(t[3])
 }
 
 // Stores the misses.
@@ -198,8 +198,8 @@ pub fn set_misses(p: &mut [[u64; 4]; ROWS], n: u32)
     ensures { λ r. ⌜ Says (now (p .entry)) (now (p .exit)) (withMisses (pathIn (now (p .entry))) n) ⌝ }
 {
     rows(p);
-    let t = p[21];
-    let u = misses_row(n);
-    let v = put(t, 0, u[0]);
-    p[21] = v;
+    let t = p[MARKS_AT];
+    let w = wide(n);
+    let v = put(t, 3, w);
+    p[MARKS_AT] = v;
 }

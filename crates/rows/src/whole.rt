@@ -4,9 +4,10 @@ ghost use Rattle.live.specs.New.{newLiveness};
 ghost use Rattle.rules.specs.Rules.{emptySlot};
 ghost use Rattle.rows.specs.View.{slotIn};
 ghost use Rattle.rows.specs.Encode.{slotRows, emptyRows};
+use crate::places::*;
 use crate::probes::*;
 use cells::marks::*;
-use cells::measures::etx_row;
+use cells::measures::etx_word;
 use rules::types::*;
 use select::types::*;
 
@@ -14,16 +15,16 @@ use select::types::*;
 pub fn used(p: &[[u64; 4]; ROWS]) -> bool
     ensures { λ r. ⌜ r ≡ slotIn (now (p .entry)) .used ⌝ }
 {
-    let t = p[64];
-    used_in(t)
+    let t = p[MARKS_AT];
+    used_in(t[2])
 }
 
 // What the slot's open said.
 pub fn label(p: &[[u64; 4]; ROWS]) -> Label
     ensures { λ r. ⌜ r ≡ slotIn (now (p .entry)) .label ⌝ }
 {
-    let t = p[64];
-    label_in(t)
+    let t = p[MARKS_AT];
+    label_in(t[2])
 }
 
 // Every row 0.
@@ -44,17 +45,16 @@ pub fn set_new(p: &mut [[u64; 4]; ROWS], used: bool, label: Label)
         × (slotIn (now (p .exit)) ≡ record { path = newLiveness; label = label; used = used }) ⌝ }
 {
     wipe(p);
-    let etx = etx_row(1.0);
-    let marks = mark_row(used, label);
-    p[22] = etx;
-    p[64] = marks;
+    let etx = etx_word(1.0);
+    let marks = label_word(used, label);
+    p[TRIPS_AT] = [0, etx, 0, 0];
+    p[MARKS_AT] = [0, 0, marks, 0];
 }
 
 // Stores an empty slot.
 pub fn set_empty(p: &mut [[u64; 4]; ROWS])
     ensures { λ r. ⌜ (now (p .exit) ≡ slotRows emptySlot) × (slotIn (now (p .exit)) ≡ emptySlot) ⌝ }
 {
-    let zeros = [0, 0, 0, 0];
-    let label = label_in(zeros);
+    let label = label_in(0);
     set_new(p, false, label);
 }

@@ -13,7 +13,6 @@ use Rattle.live.specs.declared.types.Liveness.{Liveness}
 use Rattle.rtt.specs.declared.types.Rtts.{Rtts}
 use Rattle.rules.specs.declared.types.Record.{Record}
 use Rattle.rules.specs.declared.types.Slot.{Slot}
-use Rattle.cells.specs.Cells.{labelIn, usedIn}
 use Rattle.cells.specs.Code.{settingsRow}
 use Rattle.cells.proofs.RowLaws.{settings-says}
 use Rattle.rows.specs.Parts.{withQuiet, withStop, withSamples, withSpans, withTrip}
@@ -112,7 +111,7 @@ slot-saved s {b} {c} {d} n t u =
     let w = says-then t u in
     let p : pathIn d ≡ s .path = u .path ∙ ap (λ (x : Liveness). measuredWith x (s .path)) (t .path) in
     let l : slotIn d ≡ record { path = s .path; label = slotIn b .label; used = slotIn b .used } =
-    λ k. record { path = p k; label = labelIn (w .marks k); used = usedIn (w .marks k) } in
+    λ k. record { path = p k; label = w .marks k .1; used = w .marks k .0 } in
     let m : slotIn d ≡ s =
     l ∙ (λ k. record { path = s .path; label = n .1 k .label; used = n .1 k .used }) in
     let o : slotRows (slotIn d) ≡ d = w .coded (ap slotRows (n .1) ∙ sym (n .0)) in

@@ -12,6 +12,7 @@ use live::types::Liveness;
 use ring::types::*;
 use rowring::store::set_lates;
 use rows::measures::*;
+use rows::places::*;
 use rows::probes::*;
 use rtt::types::*;
 use rules::types::*;

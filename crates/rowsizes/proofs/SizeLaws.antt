@@ -35,7 +35,7 @@ use Rattle.rules.specs.declared.types.Event.{Event}
 use Rattle.rules.specs.declared.types.Label.{Label}
 use Rattle.rules.specs.declared.types.Reply.the-variants as reply
 use Rattle.rules.specs.declared.types.Turn.{Turn}
-use Rattle.cells.specs.Cells.{labelIn, withId}
+use Rattle.cells.specs.Cells.{labelOf, withId}
 use Rattle.rows.specs.Parts.{withProven, withSeekIn}
 use Rattle.rows.specs.View.{pathIn, slotIn}
 use Rattle.rows.specs.Says.{Says, Turns}
@@ -94,7 +94,7 @@ sent p at n draw h = rw (le-ltb 65535 n h)
 
 -- a full size has 16 bits
 full-bits : (a : List (List ℕ)) → slotIn a .label .full ≤ 65535
-unfolding labelIn
+unfolding labelOf
 full-bits a = omega arith
 
 module _ (a : List (List ℕ)) (e : Event) {l : Label} (f : l ≡ slotIn a .label) where

@@ -8,6 +8,7 @@ ghost use Rattle.rowsizes.specs.Settles.{Settles};
 use base::limits::*;
 use base::types::*;
 use rows::measures::*;
+use rows::places::*;
 use rows::probes::*;
 use rules::types::*;
 use seek::types::Ladder;

@@ -12,8 +12,6 @@ use Rattle.base.specs.declared.types.MaybeTime.the-variants as time
 use Rattle.etx.specs.Etx.{one, foldOf}
 use Rattle.etx.proofs.WithinLaws.{fold-within}
 use Rattle.image.specs.Image.{etxBits}
-use Rattle.cells.specs.Cells.{withWord}
-use Rattle.cells.specs.Code.{etxRow}
 use Rattle.cells.proofs.RowLaws.{etx-says}
 use Rattle.rtt.specs.Samples.{keptSamples, samplePlace, newSample, withSample}
 use Rattle.rtt.specs.Spans.{noSpan, keptSpans, newestSpan, spanPlace, joinsOf, joinedOf, newSpan, openedOf, enteredOf}
@@ -25,8 +23,9 @@ use Rattle.live.specs.declared.types.Liveness.{Liveness}
 use Rattle.live.specs.declared.types.Traffic.{Traffic}
 use Rattle.rules.specs.Rules.{turn}
 use Rattle.rules.specs.declared.types.Reply.the-variants as reply
+use Rattle.rows.specs.Places.{rowCount, tripsAt}
 use Rattle.rows.specs.Parts.{withSamples, withSpans, withTrip}
-use Rattle.rows.specs.View.{row, pathIn, slotIn}
+use Rattle.rows.specs.View.{withCell, pathIn, slotIn}
 use Rattle.rows.specs.Says.{Says, Turns}
 use Rattle.rows.proofs.SaysLaws.{says-then, says-as, put-etx, turns-by, turns-none}
 
@@ -86,12 +85,11 @@ pub fold-real : (on : Bool) (x : Float) {y : Float} → y ≡ foldOf x on → is
 fold-real on x e = ap isNan e ∙ real (foldOf x on) (fold-within x on .low)
 
 -- its pattern stored
-pub etx-stored : (a : List (List ℕ)) → length a ≡ 65 → {x : Float} {r : List ℕ} → T (fits binary64 x) → isNan x ≡ false
-    → r ≡ withWord (row a 22) 0 (toBits binary64 x) → Says a (set a 22 r) (withEtx (pathIn a) x)
-unfolding etxRow
+pub etx-stored : (a : List (List ℕ)) → length a ≡ rowCount → {x : Float} {b : List (List ℕ)} → T (fits binary64 x)
+    → isNan x ≡ false → b ≡ withCell a tripsAt 1 (toBits binary64 x) → Says a b (withEtx (pathIn a) x)
 etx-stored a n {x} h e f =
     let z : etxBits x ≡ toBits binary64 x = rw e in
-    put-etx a n {u = etxRow x} (refl, etx-says x h) (f ∙ ap (λ (w : ℕ). withWord (row a 22) 0 w) (sym z))
+    put-etx a n {w = etxBits x} (refl, etx-says x h) (f ∙ ap (λ (w : ℕ). withCell a tripsAt 1 w) (sym z))
 
 -- the ETX stored
 pub fold-made : {a b : List (List ℕ)} (on : Bool) {x y : Float} → x ≡ pathIn a .etx → y ≡ foldOf x on

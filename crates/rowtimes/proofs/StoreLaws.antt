@@ -1,7 +1,7 @@
 -- A list of a path read from its rows, and changed in them, place by place.
 -- Assumes nothing.
-use Prim.Native.Nat.{ℕ, suc, _+_, _<_, _≤_}
-use mathlib.Core.Path.{_≡_, refl, ap, sym, _∙_}
+use Prim.Native.Nat.{ℕ, suc, _+_, _*_, _<_, _≤_}
+use mathlib.Core.Path.{_≡_, refl, ap, sym, _∙_, subst}
 use mathlib.Core.Bool.{Bool, true, false, cond}
 use mathlib.Core.List.{List, [], _∷_, _++_, map}
 use native.Mathlib.Omega.{arith}
@@ -19,6 +19,8 @@ use Rattle.base.proofs.MarkedLaws.{place-gap, place-leader}
 use Rattle.base.proofs.ScanLaws.{Mapping, mapping-start, mapping-next, mapping-end, Folding, folding-take, folding-skip}
 use Rattle.base.proofs.SeqLaws.{Searched, searched-here, searched-next}
 use Rattle.live.specs.declared.types.Liveness.{Liveness}
+use Rattle.rtt.specs.Samples.{noSample, isOld, keptSample}
+use Rattle.rtt.specs.declared.types.Sample.{Sample}
 use Rattle.rows.specs.Parts.{withSamples, withSpans}
 use Rattle.rows.specs.View.{pathIn}
 use Rattle.rows.specs.Says.{Says}
@@ -131,10 +133,52 @@ module _ {A : Type 0} {get : Liveness → List A} {put : Liveness → List A →
               rw (sym (set-getD (get (pathIn b)) i d)) (mapping-next d (w .maps) h v);
         }
 
+  -- one that is cleared or stays
+  pub dropping-one : {b c : List (List ℕ)} {i : ℕ} (d : A) → Dropping get put t z n a b i → i < n
+      → Says b c (put (pathIn b) (set (get (pathIn b)) i (cleared t z (getD (get (pathIn b)) i d))))
+      → Dropping get put t z n a c (i + 1)
+  dropping-one {b} {c} {i} d w h u =
+      let x : List A = set (get (pathIn b)) i (cleared t z (getD (get (pathIn b)) i d)) in
+      let y : get (pathIn c) ≡ x = ap get (u .path) ∙ part .new (pathIn b) x in
+      record {
+        says =
+            says-as (says-then (w .says) u)
+            (ap (λ (r : Liveness). put r x) (w .says .path)
+            ∙ part .last (pathIn a) (get (pathIn b)) x
+            ∙ ap (put (pathIn a)) (sym y));
+        maps = rw y (mapping-next d (w .maps) h (ap (cleared t z) (mapped-at d (w .maps) h)));
+      }
+
+  -- two of them, at places 2 k and 2 k + 1
+  pub dropping-two : {b c e : List (List ℕ)} (k : ℕ) (d : A) → Dropping get put t z n a b (2 * k) → 2 * k + 1 < n
+      → Says b c (put (pathIn b) (set (get (pathIn b)) (2 * k) (cleared t z (getD (get (pathIn b)) (2 * k) d))))
+      → Says c e (put (pathIn c) (set (get (pathIn c)) (2 * k + 1) (cleared t z (getD (get (pathIn c)) (2 * k + 1) d))))
+      → Dropping get put t z n a e (2 * (k + 1))
+  dropping-two {b} {c} {e} k d w h u v =
+      let q : 2 * k + 1 + 1 ≡ 2 * (k + 1) = omega arith in
+      subst (λ (x : ℕ). Dropping get put t z n a e x) q (dropping-one d (dropping-one d w (omega arith) u) h v)
+
   -- all of them
   pub dropping-end : {b : List (List ℕ)} {i : ℕ} → Dropping get put t z n a b i → n ≤ i
       → Says a b (put (pathIn a) (map (cleared t z) (get (pathIn a))))
   dropping-end w h = says-as (w .says) (ap (put (pathIn a)) (mapping-end (w .maps) h))
+
+-- a place of the samples cleared, or left
+module _ (a : List (List ℕ)) (i at window : ℕ) {s : Sample} (e : s ≡ getD (pathIn a .rtts .samples) i noSample) where
+  pub forgot : {b : List (List ℕ)} {z : Sample} → isOld at window s ≡ true → z ≡ noSample
+      → Says a b (withSamples (pathIn a) (set (pathIn a .rtts .samples) i z))
+      → Says a b (withSamples (pathIn a) (set (pathIn a .rtts .samples) i (keptSample at window (getD (pathIn a .rtts .samples) i noSample))))
+  forgot q m w =
+      let k : keptSample at window s ≡ noSample = rw q in
+      says-as w (ap (λ (x : Sample). withSamples (pathIn a) (set (pathIn a .rtts .samples) i x)) (m ∙ sym k ∙ ap (keptSample at window) e))
+
+  pub remembered : isOld at window s ≡ false
+      → Says a a (withSamples (pathIn a) (set (pathIn a .rtts .samples) i (keptSample at window (getD (pathIn a .rtts .samples) i noSample))))
+  remembered q =
+      let k : keptSample at window s ≡ s = rw q in
+      says-none
+      (ap (withSamples (pathIn a)) (sym (set-getD (pathIn a .rtts .samples) i noSample))
+      ∙ ap (λ (x : Sample). withSamples (pathIn a) (set (pathIn a .rtts .samples) i x)) (sym e ∙ sym k ∙ ap (keptSample at window) e))
 
 -- ---- passes over a list whose places are read one by one: s is the place's
 

@@ -6,6 +6,7 @@ ghost use Rattle.rows.specs.Parts.{withSpans};
 ghost use Rattle.rows.specs.Says.{Says};
 ghost use Rattle.rows.specs.View.{pathIn};
 use rows::measures::*;
+use rows::places::*;
 use rows::probes::*;
 use rtt::spans::*;
 use rtt::types::*;

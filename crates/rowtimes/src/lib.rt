@@ -8,6 +8,7 @@ use base::limits::*;
 use base::types::*;
 use live::types::Traffic;
 use rows::measures::*;
+use rows::places::*;
 use rows::probes::*;
 use rules::types::*;
 
@@ -51,10 +52,8 @@ pub fn fold(p: &mut [[u64; 4]; ROWS], delivered: bool) -> Reply
     let old = etx(p);
     let folded = etx::fold(old, delivered);
     rows(p);
-    let t = p[22];
     let bits = f64::to_bits(folded);
-    let u = cells::words::put(t, 0, bits);
-    p[22] = u;
+    set_etx_word(p, bits);
     Reply::Nothing
 }
 

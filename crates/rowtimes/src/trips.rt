@@ -2,14 +2,15 @@
 ghost use Prim.Native.Nat.{min};
 ghost use mathlib.Core.Path.{_≡_};
 ghost use mathlib.Core.List.{foldl};
-ghost use lib.ListN.{drop};
 ghost use Rattle.base.specs.Seq.{position};
 ghost use Rattle.rtt.specs.Samples.{isSample, roundTrips, minRtt};
 ghost use Rattle.rtt.specs.Spans.{baseRtt};
 ghost use Rattle.rows.specs.View.{pathIn};
+ghost use Rattle.rowtimes.specs.Pairs.{lowerAt};
 use base::time::lower;
 use base::types::MaybeTime;
 use rows::measures::*;
+use rows::places::*;
 use rows::probes::*;
 use rtt::types::*;
 
@@ -29,21 +30,32 @@ fn first_used(p: &[[u64; 4]; ROWS]) -> usize
     i
 }
 
-// The least of `first` and the round trips of the window's samples from a place on.
-fn least_from(p: &[[u64; 4]; ROWS], from: usize, first: u64) -> u64
-    ensures { λ r. ⌜ r ≡ foldl min first (roundTrips (drop from (pathIn (now (p .entry)) .rtts .samples))) ⌝ }
+// The lower of a round trip and that of the sample at a place, if it is one.
+fn lower_at(p: &[[u64; 4]; ROWS], i: usize, least: u64) -> u64
+    ensures { λ r. ⌜ r ≡ lowerAt (pathIn (now (p .entry)) .rtts .samples) i least ⌝ }
 {
-    rows(p);
-    let mut least = first;
-    let mut i = from;
-    while i < SAMPLES {
-        let s = sample(p, i);
-        i += 1;
-        if s.used {
-            least = base::num::min_u64(least, s.rtt);
-        }
+    let s = sample(p, i);
+    if s.used {
+        return base::num::min_u64(least, s.rtt);
     }
     least
+}
+
+// The least of `first` and the round trips of the window's samples, two at a turn: the halves of a row are compared
+// apart, so that neither waits for the other.
+fn least_of(p: &[[u64; 4]; ROWS], first: u64) -> u64
+    ensures { λ r. ⌜ r ≡ foldl min first (roundTrips (pathIn (now (p .entry)) .rtts .samples)) ⌝ }
+{
+    rows(p);
+    let mut even = first;
+    let mut odd = first;
+    let mut k: usize = 0;
+    while k < SAMPLES / 2 {
+        even = lower_at(p, 2 * k, even);
+        odd = lower_at(p, 2 * k + 1, odd);
+        k += 1;
+    }
+    base::num::min_u64(even, odd)
 }
 
 // The least round trip among the window's samples.
@@ -56,7 +68,7 @@ pub fn min_rtt(p: &[[u64; 4]; ROWS]) -> MaybeTime
         return MaybeTime::None;
     }
     let s = sample(p, k);
-    MaybeTime::Some(least_from(p, k + 1, s.rtt))
+    MaybeTime::Some(least_of(p, s.rtt))
 }
 
 // The least round trip over the horizon.

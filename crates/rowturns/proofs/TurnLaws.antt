@@ -3,7 +3,7 @@
 use Prim.Native.Nat.{ℕ, _%_}
 use mathlib.Core.Path.{_≡_, refl, ap, sym, subst, _∙_}
 use mathlib.Core.Bool.{Bool, true, false}
-use mathlib.Core.List.{List, [], _∷_}
+use mathlib.Core.List.{List}
 use lib.Dec.{eqb}
 use Rattle.base.specs.declared.types.Refusal.{Refusal}
 use Rattle.base.proofs.Cases.{never}
@@ -20,7 +20,7 @@ use Rattle.turns.proofs.SlotLaws.{slot-refused, slot-open, slot-work}
 use Rattle.turns.specs.Turns.{verdictOf, openedAs, workBy}
 use Rattle.turns.specs.declared.refuse.Verdict.{Verdict}
 use Rattle.turns.specs.declared.refuse.Verdict.the-variants.{Pass, Refused}
-use Rattle.cells.specs.Cells.{labelIn}
+use Rattle.cells.specs.Cells.{labelOf}
 use Rattle.rows.specs.View.{pathIn, slotIn}
 use Rattle.rows.specs.Encode.{slotRows}
 use Rattle.rows.specs.Says.{Turns, isRefused}
@@ -34,10 +34,10 @@ pub turns-whole : {a p : List (List ℕ)} {s : Slot} {x y : Reply} → (p ≡ sl
 turns-whole {a} {p} {s} {x} {y} h e f =
     record { answer = e; slot = h .1; coded = λ c. ap slotRows (h .1) ∙ sym (h .0); left = λ g. never g f }
 
--- the label of an open's words is the event's
-pub open-label : (e : Event) {l : Label} → l ≡ labelIn (1 ∷ e .len ∷ e .flags ∷ 0 ∷ [])
+-- what an open with the event's full size and flags says is the event's label
+pub open-label : (e : Event) {l : Label} → l ≡ labelOf (e .len) (e .flags)
     → newSlot true l ≡ openedAs e (e .len % 65536)
-unfolding labelIn
+unfolding labelOf
 open-label e h = ap (λ (l : Label). newSlot true l) h
 
 -- an answer that the search probe's part took, and one that it left to the ring

@@ -7,7 +7,7 @@ ghost use Rattle.rows.specs.View.{pathIn, slotIn};
 ghost use Rattle.rows.specs.Says.{Turns};
 use base::types::Refusal;
 use rowprobes::events::*;
-use rows::probes::ROWS;
+use rows::places::ROWS;
 use rowsizes::*;
 use rowtimes::*;
 use rules::types::*;

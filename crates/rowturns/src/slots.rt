@@ -4,7 +4,7 @@ ghost use Rattle.rules.specs.Rules.{emptySlot};
 ghost use Rattle.rules.specs.declared.types.Reply.the-variants.{Nothing};
 ghost use Rattle.turns.specs.Turns.{openedAs};
 ghost use Rattle.rows.specs.Says.{Turns};
-use rows::probes::ROWS;
+use rows::places::ROWS;
 use rows::whole::*;
 use rules::types::*;
 
@@ -13,8 +13,7 @@ pub fn open(p: &mut [[u64; 4]; ROWS], e: Event) -> Reply
     ensures { λ r. ⌜ Turns (now (p .entry)) (now (p .exit)) r
         (record { slot = openedAs e (e .len % 65536); reply = Nothing }) ⌝ }
 {
-    let t = [1, e.len as u64, e.flags as u64, 0];
-    let label = cells::marks::label_in(t);
+    let label = cells::marks::label_of(e.len as u64, e.flags as u64);
     set_new(p, true, label);
     Reply::Nothing
 }

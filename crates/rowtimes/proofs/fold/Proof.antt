@@ -14,30 +14,16 @@ fold-requires c κs = search needs
 rows-requires : tie.Need-rows-requires
 rows-requires c κs = search needs
 
-element-copy-out-t : tie.Need-element-copy-out-t
-element-copy-out-t c = search needs
-
 float-to-bits-bits : tie.Need-float-to-bits-bits
-float-to-bits-bits c = rw (fold-real (c .before .before .before .before .before .before .args .delivered) _ (c .before .before .before .fold .ensures)) tt
+float-to-bits-bits c = rw (fold-real (c .before .before .before .before .before .args .delivered) _ (c .before .before .fold .ensures)) tt
 
-put-requires : tie.Need-put-requires
-put-requires c κs = search needs
-
-element-set-from-u : tie.Need-element-set-from-u
-element-set-from-u c = search needs
+set-etx-word-requires : tie.Need-set-etx-word-requires
+set-etx-word-requires c κs = search needs
 
 returns : tie.Need-returns
-returns c = fold-made (c .before .before .before .before .before .before .before .args .delivered) (c .before .before .before .before .before .etx .ensures) (c .before .before .before .before .fold .ensures) (etx-stored (c .before .before .before .before .before .before .before .args .p .now) (c .before .before .rows .ensures .1) (search needs) (fold-real (c .before .before .before .before .before .before .before .args .delivered) _ (c .before .before .before .before .fold .ensures)) (c .put .ensures))
+returns c = fold-made (c .before .before .before .before .before .before .before .args .delivered) (c .before .before .before .before .before .etx .ensures) (c .before .before .before .before .fold .ensures) (etx-stored (c .before .before .before .before .before .before .before .args .p .now) (c .before .before .rows .ensures .1) (search needs) (fold-real (c .before .before .before .before .before .before .before .args .delivered) _ (c .before .before .before .before .fold .ensures)) (c .set-etx-word .ensures))
 
 pub fold-spec : {M : Type 1} → statement M
 fold-spec =
     tie.close
-    (tie.spec
-    etx-requires
-    fold-requires
-    rows-requires
-    element-copy-out-t
-    float-to-bits-bits
-    put-requires
-    element-set-from-u
-    returns)
+    (tie.spec etx-requires fold-requires rows-requires float-to-bits-bits set-etx-word-requires returns)

@@ -1,17 +1,13 @@
 -- `cells::marks::used_in` meets its contract.
 -- Assumes nothing.
-use borrow.Author.Needs.{needs}
 use mathlib.Core.Path.{refl}
 use Rattle.cells.specs.Cells.{usedIn}
 use Rattle.cells.proofs.marks.used_in.Statement.{statement}
 use Rattle.cells.proofs.marks.used_in.Tie as tie
-
-array-read-mark : tie.Need-array-read-mark
-array-read-mark c = search needs
 
 returns : tie.Need-returns
 unfolding usedIn
 returns c = refl
 
 pub used-in-spec : {M : Type 1} → statement M
-used-in-spec = tie.close (tie.spec array-read-mark returns)
+used-in-spec = tie.close (tie.spec returns)

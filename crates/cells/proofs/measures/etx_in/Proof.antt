@@ -1,12 +1,9 @@
 -- `cells::measures::etx_in` meets its contract.
 -- Assumes nothing.
-use borrow.Author.Needs.{needs}
 use Rattle.cells.specs.Cells.{etxIn}
+use borrow.Author.Needs.{needs}
 use Rattle.cells.proofs.measures.etx_in.Statement.{statement}
 use Rattle.cells.proofs.measures.etx_in.Tie as tie
-
-array-read-float-of : tie.Need-array-read-float-of
-array-read-float-of c = search needs
 
 float-of-requires : tie.Need-float-of-requires
 float-of-requires c κs = search needs
@@ -16,4 +13,4 @@ unfolding etxIn
 returns c = c .float-of .ensures
 
 pub etx-in-spec : {M : Type 1} → statement M
-etx-in-spec = tie.close (tie.spec array-read-float-of float-of-requires returns)
+etx-in-spec = tie.close (tie.spec float-of-requires returns)

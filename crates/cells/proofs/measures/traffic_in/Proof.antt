@@ -1,7 +1,7 @@
 -- `cells::measures::traffic_in` meets its contract.
 -- Assumes nothing.
-use borrow.Author.Needs.{needs}
 use Rattle.cells.specs.Cells.{trafficIn}
+use borrow.Author.Needs.{needs}
 use Rattle.cells.proofs.measures.traffic_in.Statement.{statement}
 use Rattle.cells.proofs.measures.traffic_in.Tie as tie
 
@@ -23,28 +23,15 @@ time-in-requires c κs = search needs
 time-in-requires-2 : tie.Need-time-in-requires-2
 time-in-requires-2 c κs = search needs
 
-array-read-low : tie.Need-array-read-low
-array-read-low c = search needs
-
 low-requires : tie.Need-low-requires
 low-requires c κs = search needs
-
-array-read-low-2 : tie.Need-array-read-low-2
-array-read-low-2 c = search needs
 
 low-requires-2 : tie.Need-low-requires-2
 low-requires-2 c κs = search needs
 
 returns : tie.Need-returns
 unfolding trafficIn
-returns c =
-    λ k.
-    record {
-      «heard_at» = c .before .before .before .time-in .ensures k;
-      «data_at» = c .before .before .time-in2 .ensures k;
-      frames = c .before .low .ensures k;
-      bytes = c .low2 .ensures k;
-    }
+returns c = λ k. record { «heard_at» = c .before .before .before .time-in .ensures k; «data_at» = c .before .before .time-in2 .ensures k; frames = c .before .low .ensures k; bytes = c .low2 .ensures k }
 
 pub traffic-in-spec : {M : Type 1} → statement M
 traffic-in-spec =
@@ -56,8 +43,6 @@ traffic-in-spec =
     array-read-db
     time-in-requires
     time-in-requires-2
-    array-read-low
     low-requires
-    array-read-low-2
     low-requires-2
     returns)

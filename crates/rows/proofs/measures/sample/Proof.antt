@@ -1,7 +1,13 @@
 -- `rows::measures::sample` meets its contract.
 -- Assumes nothing.
+use mathlib.Core.Path.{ap, _∙_}
+use mathlib.Core.Bool.{Bool}
+use Rattle.cells.specs.Cells.{sampleIn}
+use Rattle.cells.proofs.SampleLaws.{isLast}
+use Rattle.rows.specs.Places.{samplesAt}
+use Rattle.rows.specs.View.{row}
+use Prim.Native.Nat.{_+_, _/_}
 use Rattle.rows.proofs.ViewLaws.{sample-past, sample-at}
-use mathlib.Core.Path.{_∙_}
 use borrow.Author.Needs.{needs}
 use Rattle.rows.proofs.measures.sample.Statement.{statement}
 use Rattle.rows.proofs.measures.sample.Tie as tie
@@ -24,11 +30,22 @@ mul-t c = search needs
 element-copy-out-t : tie.Need-element-copy-out-t
 element-copy-out-t c = search needs
 
+element-copy-out-m : tie.Need-element-copy-out-m
+element-copy-out-m c = search needs
+
+array-read-bit-in : tie.Need-array-read-bit-in
+array-read-bit-in c = search needs
+
+bit-in-requires : tie.Need-bit-in-requires
+bit-in-requires c κs = search needs
+
 sample-in-requires : tie.Need-sample-in-requires
 sample-in-requires c κs = search needs
 
 returns-2 : tie.Need-returns-2
-returns-2 c = c .sample-in .ensures ∙ sample-at _ _ (c .before .before .if1 .left)
+returns-2 c = c .sample-in .ensures
+    ∙ ap (λ (b : Bool). sampleIn (row (c .before .before .before .before .before .before .args .p .now) (samplesAt + c .before .before .before .before .before .before .args .i / 2)) (isLast (c .before .before .before .before .before .before .args .i)) b) (c .before .bit-in .ensures)
+    ∙ sample-at _ (c .before .before .before .before .before .rows .ensures .1) _ (c .before .before .before .before .if1 .left)
 
 pub sample-spec : {M : Type 1} → statement M
 sample-spec =
@@ -40,5 +57,8 @@ sample-spec =
     add-t
     mul-t
     element-copy-out-t
+    element-copy-out-m
+    array-read-bit-in
+    bit-in-requires
     sample-in-requires
     returns-2)

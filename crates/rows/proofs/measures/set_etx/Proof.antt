@@ -8,32 +8,14 @@ use Rattle.rows.proofs.measures.set_etx.Tie as tie
 rows-requires : tie.Need-rows-requires
 rows-requires c κs = search needs
 
-element-copy-out-t : tie.Need-element-copy-out-t
-element-copy-out-t c = search needs
+etx-word-requires : tie.Need-etx-word-requires
+etx-word-requires c κs = search needs
 
-etx-row-requires : tie.Need-etx-row-requires
-etx-row-requires c κs = search needs
-
-array-read-put : tie.Need-array-read-put
-array-read-put c = search needs
-
-put-requires : tie.Need-put-requires
-put-requires c κs = search needs
-
-element-set-from-v : tie.Need-element-set-from-v
-element-set-from-v c = search needs
+set-etx-word-requires : tie.Need-set-etx-word-requires
+set-etx-word-requires c κs = search needs
 
 returns : tie.Need-returns
-returns c = put-etx (c .before .before .before .before .before .args .p .now) (c .before .before .before .rows .ensures .1) (c .before .etx-row .ensures) (c .put .ensures)
+returns c = put-etx (c .before .before .before .before .before .args .p .now) (c .before .before .before .rows .ensures .1) (c .before .before .etx-word .ensures) (c .set-etx-word .ensures)
 
 pub set-etx-spec : {M : Type 1} → statement M
-set-etx-spec =
-    tie.close
-    (tie.spec
-    rows-requires
-    element-copy-out-t
-    etx-row-requires
-    array-read-put
-    put-requires
-    element-set-from-v
-    returns)
+set-etx-spec = tie.close (tie.spec rows-requires etx-word-requires set-etx-word-requires returns)

@@ -8,14 +8,17 @@ use Rattle.rows.proofs.measures.set_traffic.Tie as tie
 rows-requires : tie.Need-rows-requires
 rows-requires c κs = search needs
 
-element-copy-out-u : tie.Need-element-copy-out-u
-element-copy-out-u c = search needs
+element-copy-out-m : tie.Need-element-copy-out-m
+element-copy-out-m c = search needs
 
-traffic-rows-requires : tie.Need-traffic-rows-requires
-traffic-rows-requires c κs = search needs
+arrivals-row-requires : tie.Need-arrivals-row-requires
+arrivals-row-requires c κs = search needs
 
-first-two-requires : tie.Need-first-two-requires
-first-two-requires c κs = search needs
+count-word-requires : tie.Need-count-word-requires
+count-word-requires c κs = search needs
+
+put-requires : tie.Need-put-requires
+put-requires c κs = search needs
 
 element-set-from-a : tie.Need-element-set-from-a
 element-set-from-a c = search needs
@@ -24,16 +27,17 @@ element-set-from-v : tie.Need-element-set-from-v
 element-set-from-v c = search needs
 
 returns : tie.Need-returns
-returns c = put-traffic (c .before .before .before .before .before .before .before .args .p .now) (c .before .before .before .before .before .rows .ensures .1) (c .before .before .before .traffic-rows .ensures) (c .first-two .ensures)
+returns c = put-traffic (c .before .before .before .before .before .before .args .p .now) (c .before .before .before .before .rows .ensures .1) (c .before .before .arrivals-row .ensures) (c .before .count-word .ensures) (c .put .ensures)
 
 pub set-traffic-spec : {M : Type 1} → statement M
 set-traffic-spec =
     tie.close
     (tie.spec
     rows-requires
-    element-copy-out-u
-    traffic-rows-requires
-    first-two-requires
+    element-copy-out-m
+    arrivals-row-requires
+    count-word-requires
+    put-requires
     element-set-from-a
     element-set-from-v
     returns)

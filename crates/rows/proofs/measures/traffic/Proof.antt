@@ -8,8 +8,11 @@ use Rattle.rows.proofs.measures.traffic.Tie as tie
 element-copy-out-t : tie.Need-element-copy-out-t
 element-copy-out-t c = search needs
 
-element-copy-out-u : tie.Need-element-copy-out-u
-element-copy-out-u c = search needs
+element-copy-out-m : tie.Need-element-copy-out-m
+element-copy-out-m c = search needs
+
+array-read-traffic-in : tie.Need-array-read-traffic-in
+array-read-traffic-in c = search needs
 
 traffic-in-requires : tie.Need-traffic-in-requires
 traffic-in-requires c κs = search needs
@@ -20,4 +23,10 @@ returns c = c .traffic-in .ensures
 
 pub traffic-spec : {M : Type 1} → statement M
 traffic-spec =
-    tie.close (tie.spec element-copy-out-t element-copy-out-u traffic-in-requires returns)
+    tie.close
+    (tie.spec
+    element-copy-out-t
+    element-copy-out-m
+    array-read-traffic-in
+    traffic-in-requires
+    returns)

@@ -8,12 +8,20 @@ use Rattle.rows.proofs.measures.trip.Tie as tie
 element-copy-out-t : tie.Need-element-copy-out-t
 element-copy-out-t c = search needs
 
-first-time-requires : tie.Need-first-time-requires
-first-time-requires c κs = search needs
+array-read-time-in : tie.Need-array-read-time-in
+array-read-time-in c = search needs
+
+array-read-time-in-2 : tie.Need-array-read-time-in-2
+array-read-time-in-2 c = search needs
+
+time-in-requires : tie.Need-time-in-requires
+time-in-requires c κs = search needs
 
 returns : tie.Need-returns
 unfolding pathIn
-returns c = c .first-time .ensures
+returns c = c .time-in .ensures
 
 pub trip-spec : {M : Type 1} → statement M
-trip-spec = tie.close (tie.spec element-copy-out-t first-time-requires returns)
+trip-spec =
+    tie.close
+    (tie.spec element-copy-out-t array-read-time-in array-read-time-in-2 time-in-requires returns)

@@ -11,17 +11,17 @@ rows-requires c κs = search needs
 element-copy-out-t : tie.Need-element-copy-out-t
 element-copy-out-t c = search needs
 
-ladder-row-requires : tie.Need-ladder-row-requires
-ladder-row-requires c κs = search needs
+ladder-word-requires : tie.Need-ladder-word-requires
+ladder-word-requires c κs = search needs
 
-first-two-requires : tie.Need-first-two-requires
-first-two-requires c κs = search needs
+put-requires : tie.Need-put-requires
+put-requires c κs = search needs
 
 element-set-from-v : tie.Need-element-set-from-v
 element-set-from-v c = search needs
 
 returns : tie.Need-returns
-returns c = put-ladder (c .before .before .before .before .before .args .p .now) (c .before .before .before .rows .ensures .1) (c .before .ladder-row .ensures) (c .first-two .ensures)
+returns c = put-ladder (c .before .before .before .before .before .args .p .now) (c .before .before .before .rows .ensures .1) (c .before .ladder-word .ensures) (c .put .ensures)
 
 pub set-ladder-spec : {M : Type 1} → statement M
 set-ladder-spec =
@@ -29,7 +29,7 @@ set-ladder-spec =
     (tie.spec
     rows-requires
     element-copy-out-t
-    ladder-row-requires
-    first-two-requires
+    ladder-word-requires
+    put-requires
     element-set-from-v
     returns)

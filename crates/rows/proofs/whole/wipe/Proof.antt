@@ -5,6 +5,7 @@ use mathlib.Core.List.{List, [], _∷_}
 use native.Mathlib.Omega.{arith}
 use borrow.Author.Needs.{needs}
 use Rattle.rows.specs.Encode.{emptyRows}
+use Rattle.rows.specs.Places.{rowCount}
 use Rattle.rows.proofs.CloseLaws.{Clearing, clearing-start, clearing-next, clearing-end}
 use Rattle.rows.proofs.whole.wipe.Statement.{statement}
 use Rattle.rows.proofs.whole.wipe.Tie as tie
@@ -14,10 +15,10 @@ abbrev zeros : List ℕ
 zeros = 0 ∷ 0 ∷ 0 ∷ 0 ∷ []
 
 abbrev Inv-loop : tie.InvT-loop
-Inv-loop p₀ i₀ p i = Clearing zeros [] 65 p i
+Inv-loop p₀ i₀ p i = Clearing zeros [] rowCount p i
 
 abbrev μ-loop : tie.MeasureT-loop
-μ-loop p₀ i₀ p i = 65 - i
+μ-loop p₀ i₀ p i = rowCount - i
 
 rows-requires : tie.Need-rows-requires Inv-loop μ-loop
 rows-requires c κs = search needs

@@ -1,4 +1,4 @@
--- `rowtimes::trips::min_rtt` meets its contract: the first sample, and those after it.
+-- `rowtimes::trips::min_rtt` meets its contract.
 -- Assumes nothing.
 use Rattle.rows.proofs.ViewLaws.{samples-length}
 use Rattle.rowtimes.proofs.TripLaws.{min-some, min-none}
@@ -19,16 +19,13 @@ returns c = min-none _ (c .before .first-used .ensures) (samples-length _ (c .be
 sample-requires : tie.Need-sample-requires
 sample-requires c κs = search needs
 
-add-least-from : tie.Need-add-least-from
-add-least-from c = search needs
-
-least-from-requires : tie.Need-least-from-requires
-least-from-requires c κs = search needs
+least-of-requires : tie.Need-least-of-requires
+least-of-requires c κs = search needs
 
 returns-2 : tie.Need-returns-2
 returns-2 c = min-some _ (c .before .before .before .first-used .ensures)
     (samples-length _ (c .before .before .before .before .rows .ensures .1)) (c .before .before .if1 .left)
-    (c .before .sample .ensures) (c .least-from .ensures)
+    (c .before .sample .ensures) (c .least-of .ensures)
 
 pub min-rtt-spec : {M : Type 1} → statement M
 min-rtt-spec =
@@ -38,6 +35,5 @@ min-rtt-spec =
     first-used-requires
     returns
     sample-requires
-    add-least-from
-    least-from-requires
+    least-of-requires
     returns-2)

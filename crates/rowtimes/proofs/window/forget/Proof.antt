@@ -1,21 +1,21 @@
 -- `rowtimes::window::forget` meets its contract.
 -- Assumes nothing.
-use borrow.Author.Needs.{needs}
-use Prim.Native.Nat.{_-_}
+use Prim.Native.Nat.{_-_, _*_}
+use native.Mathlib.Omega.{arith}
 use Rattle.rows.proofs.ViewLaws.{samples-length}
-use mathlib.Core.Path.{sym, _∙_}
 use Rattle.live.specs.declared.types.Liveness.{Liveness}
 use Rattle.rtt.specs.Samples.{isOld, noSample}
 use Rattle.rows.specs.Parts.{withSamples}
-use Rattle.rowtimes.proofs.StoreLaws.{Dropping, samples-part, dropping-start, dropping-take, dropping-skip, dropping-end}
+use Rattle.rowtimes.proofs.StoreLaws.{Dropping, samples-part, dropping-start, dropping-two, dropping-end}
+use borrow.Author.Needs.{needs}
 use Rattle.rowtimes.proofs.window.forget.Statement.{statement}
 use Rattle.rowtimes.proofs.window.forget.Tie as tie
 
 abbrev Inv-loop : tie.InvT-loop
-Inv-loop p₀ at window i₀ p i = Dropping (λ (v : Liveness). v .rtts .samples) withSamples (isOld at window) noSample 32 p₀ p i
+Inv-loop p₀ at window k₀ p k = Dropping (λ (v : Liveness). v .rtts .samples) withSamples (isOld at window) noSample 32 p₀ p (2 * k)
 
 abbrev μ-loop : tie.MeasureT-loop
-μ-loop p₀ at window i₀ p i = 32 - i
+μ-loop p₀ at window k₀ p k = 16 - k
 
 rows-requires : tie.Need-rows-requires Inv-loop μ-loop
 rows-requires c κs = search needs
@@ -23,35 +23,32 @@ rows-requires c κs = search needs
 loop-holds : tie.Need-loop-holds Inv-loop μ-loop
 loop-holds c = dropping-start samples-part (samples-length _ (c .rows .ensures .1))
 
-sample-requires : tie.Need-sample-requires Inv-loop μ-loop
-sample-requires c κs = search needs
+mul-forget-at : tie.Need-mul-forget-at Inv-loop μ-loop
+mul-forget-at c = omega arith
 
-add-i : tie.Need-add-i Inv-loop μ-loop
-add-i c = search needs
+forget-at-requires : tie.Need-forget-at-requires Inv-loop μ-loop
+forget-at-requires c κs = search needs
 
-is-old-requires : tie.Need-is-old-requires Inv-loop μ-loop
-is-old-requires c κs = search needs
+mul-forget-at-2 : tie.Need-mul-forget-at-2 Inv-loop μ-loop
+mul-forget-at-2 c = omega arith
 
-none-requires : tie.Need-none-requires Inv-loop μ-loop
-none-requires c κs = search needs
+add-forget-at : tie.Need-add-forget-at Inv-loop μ-loop
+add-forget-at c = omega arith
 
-set-sample-requires : tie.Need-set-sample-requires Inv-loop μ-loop
-set-sample-requires c κs = search needs
+forget-at-requires-2 : tie.Need-forget-at-requires-2 Inv-loop μ-loop
+forget-at-requires-2 c κs = search needs
+
+add-k : tie.Need-add-k Inv-loop μ-loop
+add-k c = omega arith
 
 loop-less : tie.Need-loop-less Inv-loop μ-loop
-loop-less c = search needs
+loop-less c = omega arith
 
 loop-again : tie.Need-loop-again Inv-loop μ-loop
-loop-again c = dropping-take samples-part _ (c .before .before .before .before .before .before .before .before .loop .inv) (search needs) (c .before .before .before .before .before .sample .ensures) (sym (c .before .before .before .before .is-old .ensures) ∙ c .before .before .before .if1 .taken) (c .before .before .none .ensures) (c .set-sample .ensures)
-
-loop-less-2 : tie.Need-loop-less-2 Inv-loop μ-loop
-loop-less-2 c = search needs
-
-loop-again-2 : tie.Need-loop-again-2 Inv-loop μ-loop
-loop-again-2 c = dropping-skip samples-part _ (c .before .before .before .before .before .loop .inv) (search needs) (c .before .before .sample .ensures) (sym (c .before .is-old .ensures) ∙ c .if1 .left)
+loop-again c = dropping-two samples-part (c .before .before .before .before .before .loop .k) noSample (c .before .before .before .before .before .loop .inv) (omega arith) (c .before .before .forget-at .ensures) (c .forget-at2 .ensures)
 
 returns : tie.Need-returns Inv-loop μ-loop
-returns c = dropping-end samples-part (c .before .loop .inv) (search needs)
+returns c = dropping-end samples-part (c .before .loop .inv) (omega arith)
 
 pub forget-spec : {M : Type 1} → statement M
 forget-spec =
@@ -61,13 +58,12 @@ forget-spec =
     μ-loop
     rows-requires
     loop-holds
-    sample-requires
-    add-i
-    is-old-requires
-    none-requires
-    set-sample-requires
+    mul-forget-at
+    forget-at-requires
+    mul-forget-at-2
+    add-forget-at
+    forget-at-requires-2
+    add-k
     loop-less
     loop-again
-    loop-less-2
-    loop-again-2
     returns)

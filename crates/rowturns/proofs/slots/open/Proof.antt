@@ -9,20 +9,21 @@ use borrow.Author.Needs.{needs}
 use Rattle.rowturns.proofs.slots.open.Statement.{statement}
 use Rattle.rowturns.proofs.slots.open.Tie as tie
 
-cast-t5 : tie.Need-cast-t5
-cast-t5 c = search needs
+cast-label-of : tie.Need-cast-label-of
+cast-label-of c = search needs
 
-cast-t6 : tie.Need-cast-t6
-cast-t6 c = search needs
+cast-label-of-2 : tie.Need-cast-label-of-2
+cast-label-of-2 c = search needs
 
-label-in-requires : tie.Need-label-in-requires
-label-in-requires c κs = search needs
+label-of-requires : tie.Need-label-of-requires
+label-of-requires c κs = search needs
 
 set-new-requires : tie.Need-set-new-requires
 set-new-requires c κs = search needs
 
 returns : tie.Need-returns
-returns c = turns-as (turns-whole (c .set-new .ensures) refl refl) (ap (λ (s : Slot). record { slot = s; reply = Nothing }) (open-label (c .before .before .before .before .before .args .e) (c .before .before .label-in .ensures)))
+returns c = turns-as (turns-whole (c .set-new .ensures) refl refl) (ap (λ (s : Slot). record { slot = s; reply = Nothing }) (open-label (c .before .before .before .before .before .args .e) (c .before .before .label-of .ensures)))
 
 pub open-spec : {M : Type 1} → statement M
-open-spec = tie.close (tie.spec cast-t5 cast-t6 label-in-requires set-new-requires returns)
+open-spec =
+    tie.close (tie.spec cast-label-of cast-label-of-2 label-of-requires set-new-requires returns)

@@ -1,0 +1,2 @@
+-- Round trips in a slot's rows.
+pub mod Pairs
