@@ -1,11 +1,16 @@
 /*
- * Hessiantalc over C: every function of target/staticlib/libentries.a, which `rt staticlib entries` proves and writes
- * (x86-64 Linux). `host/examples` holds each declaration to the function's own in crates/entries/src.
+ * Hessiantalc over C: every function of libhessiantalc.a (x86-64 Linux), which `rt staticlib hessiantalc` proves and
+ * writes to target/staticlib. This header and that archive are all that a program takes over:
+ *
+ *     cc -I DIR-OF-THE-HEADER program.c DIR-OF-THE-ARCHIVE/libhessiantalc.a -o program
+ *
+ * The archive defines the functions named here and no other name; of a C library it needs memcpy, memmove and memset.
+ * `host/examples` holds each declaration to the function's own in crates/hessiantalc/src, `host/stack` the names.
  *
  * A caller passes pointers that are good for as many bytes as the length beside them says, to ranges of memory that do
  * not overlap. Beyond that nothing is asked: a call outside the limits gets a refusal number, and nothing is written.
- * Instants and durations are nanoseconds. Bytes are little-endian. docs/ENTRIES.md has the layouts of scripts, answers,
- * images, rivals and events, and every refusal with what to do about it.
+ * Instants and durations are nanoseconds. Bytes are little-endian. docs/ENTRIES.md has the layouts of rivals, events
+ * and records, and every refusal with what to do about it.
  */
 #ifndef HESSIANTALC_H
 #define HESSIANTALC_H
@@ -123,14 +128,6 @@ struct hess_reply hess_record_standing(const uint64_t slots[8][43][4], uint8_t s
  * small.
  */
 struct hess_reply hess_events(const uint8_t *file, size_t len, uint8_t *out, size_t outlen);
-
-/* ---- one path, by a script */
-
-/*
- * Runs a script, calls of 48 bytes, on a new path, and writes to `out` an answer of 48 bytes for each call, then the
- * 1,800 bytes of the path's image. Gives 0; or 13, `len` is no multiple of 48; or 16, `outlen` is below `len` + 1,800.
- */
-uint64_t hess_script(const uint8_t *script, size_t len, uint8_t *out, size_t outlen);
 
 /* ---- identifiers and instants */
 

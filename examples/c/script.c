@@ -1,8 +1,12 @@
-/* Single functions, and calls on one path in a script: a probe is sent and answered. docs/ENTRIES.md has the calls. */
+/*
+ * Single functions; and, by the function of the test's own library, calls on one path in a script: a probe is sent and
+ * answered. docs/ENTRIES.md has the calls.
+ */
 #include <inttypes.h>
 #include <stdio.h>
 
 #include "hessiantalc.h"
+#include "hesstest.h"
 
 int main(void) {
     printf("identifier 0 after 2^32 - 1: %d\n", hess_after(0, UINT32_MAX));

@@ -1,4 +1,5 @@
-//! Single functions, and calls on one path in a script: a probe is sent and answered. docs/ENTRIES.md has the calls.
+//! Single functions; and, by the function of the test's own library, calls on one path in a script: a probe is sent and
+//! answered. docs/ENTRIES.md has the calls.
 
 #[repr(C)]
 struct Reply {

@@ -2,7 +2,7 @@
 //! image. Nanoseconds a field of rivals: ours, the Rust's with the same decoding, and without it.
 
 use crate::calls::op;
-use crate::entries;
+use crate::clib;
 #[cfg(choice)]
 use crate::random::Rng;
 #[cfg(choice)]
@@ -26,7 +26,7 @@ pub fn bench() {
         let script = repeat(&part);
         let mut out = vec![0; script.len() + IMAGE];
         let mut rust = out.clone();
-        assert_eq!(entries::script(&script, &mut out), run(&script, &mut rust));
+        assert_eq!(clib::script(&script, &mut out), run(&script, &mut rust));
         assert!(out == rust, "ours differs from the Rust's: {name}");
         assert!(
             (0..CALLS).all(|n| word(&rust, 6 * n) == 0),
@@ -35,7 +35,7 @@ pub fn bench() {
         let mut both = [Vec::new(), Vec::new()];
         for _ in 0..RUNS {
             both[0].push(time(|| {
-                entries::script(black_box(&script), black_box(&mut out))
+                clib::script(black_box(&script), black_box(&mut out))
             }));
             both[1].push(time(|| run(black_box(&script), black_box(&mut out))));
         }
@@ -185,7 +185,7 @@ fn field_times(bytes: &[u8]) -> [f64; 3] {
     let mut times = [const { Vec::new() }; 3];
     for _ in 0..RUNS {
         let sides = [
-            run(&|| fields().map(|f| entries::choose(f, MARGIN).value).sum()),
+            run(&|| fields().map(|f| clib::choose(f, MARGIN).value).sum()),
             run(&|| fields().map(|f| choose_of(f, MARGIN, Nans::One).1).sum()),
             run(&|| {
                 let place = |f: &Prepared| f.choose(MARGIN).unwrap_or(0) as u64;

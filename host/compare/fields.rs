@@ -4,7 +4,7 @@
 //! every NaN as the positive quiet one. On how many fields the Rust itself answers otherwise
 //! where it sees sign and payload is counted beside.
 
-use crate::entries::{self, Reply, hess_carried, hess_hold, hess_quicker, hess_score, hess_tier};
+use crate::clib::{self, Reply, hess_carried, hess_hold, hess_quicker, hess_score, hess_tier};
 use crate::random::{LIMITS, Rng};
 use crate::rivals::{
     Case, FITS, HELD, INDEX, MARKS, MEDIUM, PINNED, PREFERRED, RTT, SCORE, SCORED, TIER, TIMED,
@@ -74,10 +74,10 @@ impl Fields {
         }
         for _ in 0..PAIRS {
             let case = pair(&mut all.rng);
-            all.pair("held", &case, entries::held, |c, nans| {
+            all.pair("held", &case, clib::held, |c, nans| {
                 held_of(&c.bytes(), c.margin(), nans)
             });
-            all.pair("waits", &case, entries::waits, |c, nans| {
+            all.pair("waits", &case, clib::waits, |c, nans| {
                 waits_of(&c.bytes(), c.margin(), nans)
             });
         }
@@ -271,9 +271,9 @@ impl Fields {
             let given = Given::new(&bytes[..len]);
             for margin in [1.3, f64::NAN] {
                 let calls: [(_, fn(&[u8], f64) -> Reply, _); 3] = [
-                    ("choose", entries::choose, FIELD),
-                    ("held", entries::held, PAIR),
-                    ("waits", entries::waits, PAIR),
+                    ("choose", clib::choose, FIELD),
+                    ("held", clib::held, PAIR),
+                    ("waits", clib::waits, PAIR),
                 ];
                 for (name, ours, right) in calls {
                     if len != right {
@@ -427,7 +427,7 @@ fn difference(ours: Reply, rust: Pair, given: &Given) -> Option<String> {
 
 fn choose_difference(case: &Case) -> Option<String> {
     let given = Given::new(&case.bytes());
-    let ours = entries::choose(given.bytes(), case.margin());
+    let ours = clib::choose(given.bytes(), case.margin());
     difference(ours, choose(case, Nans::One), &given)
 }
 
@@ -436,7 +436,7 @@ fn best_difference(bytes: &[u8], lent: usize) -> Option<String> {
     let given = Given::new(bytes);
     let before: Vec<u8> = (0..lent + PAST).map(|n| (n * 7 + 90) as u8).collect();
     let mut after = before.clone();
-    let ours = entries::best(given.bytes(), &mut after[..lent]);
+    let ours = clib::best(given.bytes(), &mut after[..lent]);
     let rust = best_of(bytes, lent, Nans::One);
     let mut expected = before;
     if let Ok(words) = rust {

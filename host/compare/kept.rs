@@ -1,6 +1,6 @@
 //! A record in words, over C: our functions on it, and words that must stay on both sides of it.
 
-use crate::entries::Reply;
+use crate::clib::Reply;
 use oracle::proto::path::record::{Event, SLOTS};
 
 /// Rows of a slot.

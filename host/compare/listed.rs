@@ -1,4 +1,4 @@
-//! Lists of events as the program `filecases` has them, in words, with the answers and the standings of
+//! Lists of events as the program `vectors` has them, in words, with the answers and the standings of
 //! the Rust's record: four settings, then for each event its four words and the word of its answer; apart
 //! from them 51 bytes for each slot, its standing and zeros.
 

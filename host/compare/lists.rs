@@ -16,7 +16,7 @@ mod damage;
 #[cfg(record)]
 mod encoder;
 #[allow(dead_code)]
-mod entries;
+mod clib;
 #[allow(dead_code)]
 mod events;
 mod filed;
@@ -38,7 +38,7 @@ mod strange;
 mod wording;
 mod work;
 
-fn main() {
+pub fn main() {
     let words: Vec<String> = std::env::args().skip(1).collect();
     let words: Vec<&str> = words.iter().map(String::as_str).collect();
     match words[..] {

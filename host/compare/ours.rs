@@ -1,6 +1,6 @@
 //! Our `hess_events`; with the switch `standin`, the Rust's own record as it was before any fault.
 
-use crate::entries::Reply;
+use crate::clib::Reply;
 
 #[cfg(not(standin))]
 mod side {

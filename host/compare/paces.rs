@@ -1,14 +1,14 @@
 //! Nanoseconds an event: ours on a record in words, one C call each, by a pointer to the event's words
 //! and by ten numbers; the Rust's record in place, with the same refusals, by its own method, which gets a
-//! pointer to an event, and behind a C call with the same numbers; ours by value, whole files through
-//! `hess_events`.
+//! pointer to an event, and behind a C call with the same numbers; and whole files: ours through
+//! `hess_events`, which goes over a file twice, the Rust's record over the same bytes in one pass.
 
 #[allow(dead_code)]
 mod aims;
 #[allow(dead_code)]
 mod calls;
 #[allow(dead_code)]
-mod entries;
+mod clib;
 #[allow(dead_code)]
 mod events;
 #[allow(dead_code)]
@@ -20,13 +20,14 @@ mod ours;
 mod papers;
 mod random;
 
-use entries::Reply;
+use clib::Reply;
 use events::{
     ANSWER, CHOOSE, FOLD, FRESH, HEAR, JUDGE, OPEN, POLL, PROBE, PROVE, SAMPLE, SEARCH, SWEEP,
     THAW, words_of,
 };
 use filed::Filed;
 use kept::Kept;
+use oracle::proto::path::eventfile::{self, Next, record_at};
 use oracle::proto::path::record::{Event, Record, SLOTS};
 use ours::Ours;
 use std::hint::black_box;
@@ -34,11 +35,10 @@ use std::time::Instant;
 
 /// Events in a list, and runs of which the median is taken. A run is as many lists as take the Rust's
 /// record five milliseconds, and its time that of its median list, since some are broken into by
-/// other jobs; of by value so many files.
+/// other jobs.
 const EVENTS: usize = 500;
 const RUNS: usize = 9;
 const SPAN: f64 = 5e6;
-const FILES: usize = 5;
 const SECOND: u64 = 1_000_000_000;
 /// Cap, gap, window, horizon.
 const SETTINGS: [u64; 4] = [100, SECOND, 1 << 60, 60 * SECOND];
@@ -172,16 +172,16 @@ fn list(name: &str, turn: Turn) -> (Vec<Event>, Vec<Event>) {
 fn main() {
     println!();
     println!(
-        "| Events | by its words, ns an event | the Rust's method | ratio | by numbers | the Rust's over C | ratio | to the method | by value | ratio |"
+        "| Events | by its words, ns an event | the Rust's method | ratio | by numbers | the Rust's over C | ratio | to the method | a file by `hess_events` | the Rust's, one pass | ratio |"
     );
-    println!("|---|---|---|---|---|---|---|---|---|---|");
+    println!("|---|---|---|---|---|---|---|---|---|---|---|");
     for (name, turn) in turns() {
         let (before, events) = list(name, turn);
         let all = times(&before, &events);
         let side = |n: usize| median(all.iter().map(|run| run[n]).collect());
         let ratio = |n: usize, m: usize| median(all.iter().map(|run| run[n] / run[m]).collect());
         println!(
-            "| {name} | {:.1} | {:.1} | {:.2} | {:.1} | {:.1} | {:.2} | {:.2} | {:.0} | {:.1} |",
+            "| {name} | {:.1} | {:.1} | {:.2} | {:.1} | {:.1} | {:.2} | {:.2} | {:.1} | {:.1} | {:.2} |",
             side(WORDS),
             side(METHOD),
             ratio(WORDS, METHOD),
@@ -189,8 +189,9 @@ fn main() {
             side(OVER_C),
             ratio(NUMBERS, OVER_C),
             ratio(NUMBERS, METHOD),
-            side(VALUE),
-            ratio(VALUE, METHOD)
+            side(FILE),
+            side(PASS),
+            ratio(FILE, PASS)
         );
     }
     println!();
@@ -245,16 +246,17 @@ fn value_in(answer: u64) -> u64 {
 #[derive(Clone, Copy)]
 struct Words([u64; 4]);
 
-/// The sides of a run: ours by words, the Rust's by its own method, ours by numbers, the Rust's over C, ours by
-/// value.
+/// The sides of a run: ours by words, the Rust's by its own method, ours by numbers, the Rust's over C, ours over
+/// a file, the Rust's over the same file.
 const WORDS: usize = 0;
 const METHOD: usize = 1;
 const NUMBERS: usize = 2;
 const OVER_C: usize = 3;
-const VALUE: usize = 4;
+const FILE: usize = 4;
+const PASS: usize = 5;
 
 /// Nanoseconds an event of each side in each run, the sides in turn.
-fn times(before: &[Event], events: &[Event]) -> Vec<[f64; 5]> {
+fn times(before: &[Event], events: &[Event]) -> Vec<[f64; 6]> {
     let mut words = Kept::filled(|| 0);
     let mut rust = Record::new(SETTINGS).expect("allowed settings");
     assert_eq!(words.renew(SETTINGS).number, 0);
@@ -265,6 +267,7 @@ fn times(before: &[Event], events: &[Event]) -> Vec<[f64; 5]> {
     let coded: Vec<Words> = events.iter().map(|e| Words(words_of(e, 0))).collect();
     let file = Filed::new(SETTINGS, [before, events].concat(), || 0);
     let mut ours = Ours::default();
+    let mut made = Vec::new();
     let mut all = Vec::new();
     let mut lists = 1;
     for n in 0..=RUNS {
@@ -278,13 +281,17 @@ fn times(before: &[Event], events: &[Event]) -> Vec<[f64; 5]> {
             [same, also, over] == [sum; 3],
             "ours differs from the Rust's"
         );
-        let e = median((0..FILES).map(|_| by_value(&mut ours, &file)).collect());
+        let e = median((0..lists).map(|_| by_file(&mut ours, &file)).collect());
+        let f = median((0..lists).map(|_| one_pass(&mut made, &file)).collect());
+        let lent = lent_for(&file);
+        let (_, out) = ours.run(&file.bytes, lent).expect("a whole file");
+        assert!(out.starts_with(&made), "ours differs from the Rust's");
         // The first run only says how many lists the others have.
         if n == 0 {
             lists = 1 + (SPAN / (b * events.len() as f64)) as usize;
             continue;
         }
-        all.push([a, b, c, d, e]);
+        all.push([a, b, c, d, e, f]);
     }
     all
 }
@@ -310,14 +317,38 @@ fn run<S: Clone, E>(
     (median(times), sum)
 }
 
+/// The bytes that a file's answers and standings may take.
+fn lent_for(file: &Filed) -> usize {
+    16 * file.events.len() + SLOTS * 52
+}
+
 /// Nanoseconds an event of a whole file through `hess_events`.
-fn by_value(ours: &mut Ours, file: &Filed) -> f64 {
-    let lent = 16 * file.events.len() + SLOTS * 52;
+fn by_file(ours: &mut Ours, file: &Filed) -> f64 {
     let clock = Instant::now();
-    let (reply, _) = ours.run(&file.bytes, lent).expect("a whole file");
+    let (reply, _) = ours
+        .run(&file.bytes, lent_for(file))
+        .expect("a whole file");
     let time = clock.elapsed().as_nanos() as f64;
     assert_eq!(reply.number, 0);
     time / file.events.len() as f64
+}
+
+/// Nanoseconds an event of the Rust's record over the same bytes: each record is read, run and its answer
+/// written in one pass, then the standings.
+fn one_pass(out: &mut Vec<u8>, file: &Filed) -> f64 {
+    let clock = Instant::now();
+    out.clear();
+    out.reserve(lent_for(file));
+    let mut record = eventfile::opened(&file.bytes).expect("allowed settings");
+    let mut rest = &file.bytes[32..];
+    while let Next::Event(event, len) = record_at(rest) {
+        let (number, value) = record.event(&event);
+        out.extend_from_slice(&number.to_le_bytes());
+        out.extend_from_slice(&value.to_le_bytes());
+        rest = &rest[len..];
+    }
+    record.put_standings(out);
+    clock.elapsed().as_nanos() as f64 / file.events.len() as f64
 }
 
 fn median(mut times: Vec<f64>) -> f64 {

@@ -4,7 +4,7 @@
 
 use crate::damage::damaged;
 use crate::encoder::{encoded, normal, normal_rows, slot_rows};
-use crate::entries::Reply;
+use crate::clib::Reply;
 use crate::events::{CHOOSE, List, THEMES, words_of};
 use crate::filed::Filed;
 use crate::handed::{Handed, Sixes};

@@ -2,7 +2,7 @@
 //! byte for byte, the bytes past them, and the two refusals that write nothing.
 
 use crate::calls::{Arg, OPS, field, op, show};
-use crate::entries;
+use crate::clib;
 use crate::flavours::{FLAVOURS, Flavour, script};
 use crate::random::Rng;
 use crate::smaller;
@@ -133,7 +133,7 @@ impl Scripts {
     fn refusal(&mut self, script: &[u8], lent: usize, number: u64) {
         let before: Vec<u8> = (0..lent + PAST).map(|n| n as u8).collect();
         let mut after = before.clone();
-        let ours = entries::script(script, &mut after[..lent]);
+        let ours = clib::script(script, &mut after[..lent]);
         if ours != number || before != after {
             println!(
                 "{} bytes of script, {lent} lent: ours {ours}, the Rust's {number}; lent bytes {}",
@@ -174,7 +174,7 @@ fn ours(script: &[u8]) -> Ours {
     let fill = |n: usize| (n * 7 + 90) as u8;
     let mut bytes: Vec<u8> = (0..written + PAST).map(fill).collect();
     let lent = written + script.len() / CALL % 2 * (PAST / 2);
-    let number = entries::script(&given[1..], &mut bytes[..lent]);
+    let number = clib::script(&given[1..], &mut bytes[..lent]);
     let rest = (written..written + PAST).all(|n| bytes[n] == fill(n)) && given[1..] == *script;
     Ours {
         number,

@@ -3,7 +3,7 @@
 mod aims;
 mod bench;
 mod calls;
-mod entries;
+mod clib;
 #[cfg(choice)]
 mod fields;
 mod flavours;
@@ -18,7 +18,7 @@ use scripts::{Scripts, name_of};
 use single::Single;
 use std::time::Instant;
 
-fn main() {
+pub fn main() {
     match std::env::args().nth(1).as_deref() {
         Some("bench") => {
             bench::bench();

@@ -1,6 +1,6 @@
 //! Our single functions beside the Rust's: every pair of limits, then numbers at random.
 
-use crate::entries::{
+use crate::clib::{
     Reply, hess_after, hess_clamp, hess_deadline, hess_elapsed, hess_fold, hess_max,
     hess_quality_index, hess_seconds, hess_size, hess_timeout, hess_total, hess_total_bits,
 };

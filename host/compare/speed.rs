@@ -6,7 +6,7 @@ mod aims;
 #[allow(dead_code)]
 mod calls;
 #[allow(dead_code)]
-mod entries;
+mod clib;
 #[allow(dead_code)]
 mod events;
 #[allow(dead_code)]
@@ -78,8 +78,7 @@ fn main() {
     );
     let (record, slot) = copies.expect("a first file");
     println!(
-        "On the first file `hess_events`, with the whole record by value in and out of each event: {record:.0} ns \
-         an event, in each of its two passes; `pathlog`, on words in place: {slot:.0}."
+        "On the first file `hess_events`: {record:.0} ns an event, in each of its two passes; `pathlog`: {slot:.0}."
     );
 }
 

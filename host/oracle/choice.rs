@@ -1,6 +1,6 @@
 //! The reference of the C functions of the choice: the Rust's own functions, on rivals that are
 //! read from words. It stands beside select.rs, and so sees what is open to its neighbours. The
-//! refusals are the entries' (5 length, 6 duration, 11, 12, 13, 16).
+//! refusals are the C functions' (5 length, 6 duration, 11, 12, 13, 16).
 
 use super::live::Liveness;
 use super::select::{self, Field, Hold, Rival};

@@ -55,7 +55,7 @@ fn bits(x: f64) -> u64 {
 }
 
 impl Liveness<u64> {
-    /// Every kept field, in the order of the entries' image.
+    /// Every kept field, in the order of the image.
     pub fn image(&self) -> [u64; IMAGE] {
         let mut w = Words {
             words: [0; IMAGE],

@@ -1,5 +1,5 @@
 //! The reference of `hess_script`: a script of calls on one `Liveness`, run by the Rust's own
-//! methods. The refusals are the entries' (5 length, 6 duration, 8, 9, 10, 13, 15, 16).
+//! methods. The refusals are the C functions' (5 length, 6 duration, 8, 9, 10, 13, 15, 16).
 
 use super::choice::one_nan;
 use super::live::{Answer, Liveness, Sent};

@@ -6,5 +6,6 @@ pub mod Serial
 pub mod Time
 pub mod Limits
 pub mod Refusals
+pub mod Missing
 pub mod Least
 pub mod Passes

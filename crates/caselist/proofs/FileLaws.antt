@@ -17,10 +17,10 @@ use Rattle.octets.proofs.Fill.{over-fits}
 use Rattle.standing.specs.Standing.{writtenValue}
 use Rattle.standing.specs.declared.types.Written.{Written}
 use Rattle.standing.specs.declared.types.Written.the-variants as reply
-use Rattle.pathrun.specs.Lines.{linesOf}
-use Rattle.pathrun.specs.Sessions.{begun, ranOf}
-use Rattle.pathrun.specs.Whole.{fileText, fileReply}
-use Rattle.pathrun.proofs.WholeLaws.{Ends, ends, total-in, file-done}
+use Rattle.session.specs.Lines.{linesOf}
+use Rattle.session.specs.Sessions.{begun, ranOf}
+use Rattle.session.specs.Whole.{fileText, fileReply}
+use Rattle.session.proofs.WholeLaws.{Ends, ends, total-in, file-done}
 use Rattle.replay.specs.Replay.{alike}
 use Rattle.replay.proofs.ReplayLaws.{alike-told}
 use Rattle.caselist.specs.Cases.{fileAgrees}

@@ -15,7 +15,7 @@ use Rattle.rules.specs.declared.types.Event.{Event}
 use Rattle.rules.specs.declared.types.Reply.{Reply}
 use Rattle.rows.specs.View.{slotIn}
 use Rattle.eventfile.specs.File.{settingsOf}
-use Rattle.rowpeer.specs.Record.{recordIn, AreCoded, Steps, Tells}
+use Rattle.peer.specs.Record.{recordIn, AreCoded, Steps, Tells}
 use Rattle.caselist.specs.Lists.{callEvent, givenOf, callsFrom, wholeCalls, answersAgree, standingsAgree, listAgrees}
 
 -- ---- one call

@@ -6,7 +6,7 @@ use mathlib.Core.Bool.{Bool, false, cond}
 use lib.Dec.{ltb, leb}
 use lib.ListN.{length, take, drop}
 use Rattle.octets.specs.Octets.{readAt}
-use Rattle.pathrun.specs.Lines.{linesOf}
+use Rattle.session.specs.Lines.{linesOf}
 use Rattle.replay.specs.Replay.{alike}
 use Rattle.caselist.specs.Lists.{listAgrees}
 

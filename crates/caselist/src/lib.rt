@@ -29,7 +29,7 @@ fn file_agrees(file: &[u8], lines: &[u8]) -> bool
     ensures { λ r. ⌜ r ≡ fileAgrees (now (file .entry)) (now (lines .entry)) ⌝ }
 {
     let mut out = [0u8; 65536];
-    let w = pathrun::whole::lines_of_file(file, &mut out);
+    let w = portions::whole::lines_of_file(file, &mut out);
     match w {
         Written::Count(k) => check::same(&out[0..k], lines),
         Written::Refused(why) => false,

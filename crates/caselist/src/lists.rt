@@ -8,7 +8,7 @@ ghost use Rattle.replay.specs.Replay.{alike};
 ghost use Rattle.rules.specs.Rules.{emptySlot};
 ghost use Rattle.rules.specs.Step.{step, run};
 ghost use Rattle.rows.specs.View.{slotIn};
-ghost use Rattle.rowpeer.specs.Record.{recordIn, AreCoded, Steps};
+ghost use Rattle.peer.specs.Record.{recordIn, AreCoded, Steps};
 ghost use Rattle.caselist.specs.Lists.{wordsIn, callEvent, wholeCalls, answersAgree, slotTold};
 ghost use Rattle.caselist.specs.Lists.{standingsAgree, listAgrees};
 use rows::places::ROWS;
@@ -34,7 +34,7 @@ fn call_agrees(t: &[u64; 4], rec: &mut [[[u64; 4]; ROWS]; PATH_MAX_PER_PEER], b:
 {
     let w = words(b);
     let given = octets::get(b, 32, 8);
-    let told = rowpeer::record::tell(t, rec, &w);
+    let told = peer::record::tell(t, rec, &w);
     told == given
 }
 
@@ -62,9 +62,9 @@ fn calls_agree(t: &[u64; 4], rec: &mut [[[u64; 4]; ROWS]; PATH_MAX_PER_PEER], s:
 fn slot_agrees(rec: &[[[u64; 4]; ROWS]; PATH_MAX_PER_PEER], slot: u8, given: &[u8]) -> bool
     ensures { λ r. ⌜ r ≡ alike (slotTold (getD (map slotIn (now (rec .entry))) slot emptySlot)) (now (given .entry)) ⌝ }
 {
-    rowpeer::choice::slots(rec);
+    queries::slots(rec);
     let mut out = [0u8; 51];
-    rowpeer::standings::standing(rec, slot, &mut out);
+    queries::standings::standing(rec, slot, &mut out);
     check::same(&out, given)
 }
 
@@ -72,7 +72,7 @@ fn slot_agrees(rec: &[[[u64; 4]; ROWS]; PATH_MAX_PER_PEER], slot: u8, given: &[u
 fn standings_agree(rec: &[[[u64; 4]; ROWS]; PATH_MAX_PER_PEER], given: &[u8]) -> bool
     ensures { λ r. ⌜ r ≡ standingsAgree (map slotIn (now (rec .entry))) (now (given .entry)) ⌝ }
 {
-    rowpeer::choice::slots(rec);
+    queries::slots(rec);
     if given.len() != 408 {
         return false;
     }
@@ -99,8 +99,8 @@ pub fn list_agrees(told: &[u8], given: &[u8]) -> bool
     let path = [word; ROWS];
     let mut t = [0u64; 4];
     let mut rec = [path; PATH_MAX_PER_PEER];
-    let reply = rowpeer::record::new(&mut t, &mut rec, eventfile::settings_from(told));
-    if turns::reply::number_of(reply) == 0 {
+    let reply = peer::record::new(&mut t, &mut rec, eventfile::settings_from(told));
+    if refusals::reply::number_of(reply) == 0 {
         let answers = calls_agree(&t, &mut rec, &told[32..]);
         let standings = standings_agree(&rec, given);
         return answers & standings;

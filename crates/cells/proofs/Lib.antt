@@ -2,6 +2,5 @@
 pub mod RowLaws
 pub mod MakerLaws
 pub mod PartLaws
-pub mod EventLaws
 pub mod BitLaws
 pub mod SampleLaws

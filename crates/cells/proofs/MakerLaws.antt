@@ -16,7 +16,7 @@ use Rattle.rtt.specs.declared.types.Span.{Span}
 use Rattle.stop.specs.declared.types.MaybeStop.{MaybeStop}
 use Rattle.stop.specs.declared.types.MaybeStop.the-variants as stop
 use Rattle.stop.specs.declared.types.Stop.{Stop}
-use Rattle.image.specs.Image.{timeTag}
+use Rattle.base.specs.Missing.{timeTag}
 use Rattle.cells.specs.Cells.{idIn, lengthIn, sentIn, idsIn, spanIn}
 use Rattle.cells.specs.Code.{idWord, lenWord, sentRow, idsRow, spanRow, stopRow}
 use Rattle.cells.proofs.RowLaws.{id-some, len-some, sent-says, ids-same, span-says}

@@ -22,7 +22,8 @@ use Rattle.seek.specs.declared.types.Sizes.{Sizes}
 use Rattle.stop.specs.declared.types.MaybeStop.{MaybeStop}
 use Rattle.stop.specs.declared.types.MaybeStop.the-variants as stop
 use Rattle.live.specs.declared.types.Traffic.{Traffic}
-use Rattle.image.specs.Image.{timeTag, timeOrZero, etxBits}
+use Rattle.base.specs.Missing.{timeTag, timeOrZero}
+use Rattle.total.specs.Patterns.{etxBits}
 use Rattle.select.specs.declared.types.Medium.{Medium}
 use Rattle.select.specs.declared.types.Medium.the-variants as medium
 use Rattle.select.specs.declared.types.Role.{Role}
@@ -31,7 +32,7 @@ use Rattle.select.specs.Media.{mediumOf, roleOf}
 use Rattle.rules.specs.declared.types.Label.{Label}
 use Rattle.rules.specs.declared.types.Settings.{Settings}
 use Rattle.cells.specs.Cells.{flagIn, idIn, lengthIn, instantIn, sentIn, idsIn, stopIn, sizesIn, ladderIn}
-use Rattle.cells.specs.Cells.{trafficIn, missesIn, etxIn, spanIn, usedIn, labelOf, labelIn, settingsIn}
+use Rattle.cells.specs.Cells.{trafficIn, missesIn, etxIn, spanIn, usedIn, labelFrom, labelIn, settingsIn}
 use Rattle.cells.specs.Code.{idWord, lenWord, sentRow, idsRow, stopRow, untilWord, ladderWord, arrivalsRow}
 use Rattle.cells.specs.Code.{spanRow, mediumBits, roleBits, flagBits, labelWord, settingsRow}
 
@@ -248,8 +249,8 @@ parts x m n a b c e h i j k l =
     }
 
 -- the flags of a label
-label-flags : (l : Label) (w : ℕ) → w % 65536 ≡ l .full → labelOf w (flagBits l) ≡ l
-unfolding labelOf
+label-flags : (l : Label) (w : ℕ) → w % 65536 ≡ l .full → labelFrom w (flagBits l) ≡ l
+unfolding labelFrom
 label-flags l w f =
     let p = parts (flagBits l) _ _ _ _ _ refl (medium-small (l .medium)) (role-small (l .role)) (flag-small (l .pinned))
     (flag-small (l .fits)) (flag-small (l .preferred)) in
@@ -280,7 +281,7 @@ label-made on l {u} {n} {x} e f g =
     let m = slot-marked w n u x refl (f .1) (e .1) in (
       (λ k. f .0 k + 65536 * e .0 k + 131072 * g k),
       bit-same on (w / 65536 % 2) (m .used ∙ e .0),
-      ap (labelOf w) (m .flags ∙ g) ∙ label-flags l w (m .full ∙ f .0),
+      ap (labelFrom w) (m .flags ∙ g) ∙ label-flags l w (m .full ∙ f .0),
     )
 
 -- the marks of a slot whose full size is within its width

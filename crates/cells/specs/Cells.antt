@@ -22,8 +22,7 @@ use Rattle.seek.specs.declared.types.Ladder.{Ladder}
 use Rattle.stop.specs.declared.types.MaybeStop.{MaybeStop}
 use Rattle.stop.specs.declared.types.MaybeStop.the-variants as stop
 use Rattle.live.specs.declared.types.Traffic.{Traffic}
-use Rattle.rules.specs.Event.{Open, kindNumber}
-use Rattle.rules.specs.Rules.{labelBy}
+use Rattle.rules.specs.Event.{labelOf}
 use Rattle.rules.specs.declared.types.Event.{Event}
 use Rattle.rules.specs.declared.types.Label.{Label}
 use Rattle.rules.specs.declared.types.Settings.{Settings}
@@ -170,24 +169,13 @@ spanIn r = record { from = word r 0; to = word r 1; rtt = word r 2; used = flagI
 unfoldable pub usedIn : ℕ → Bool
 usedIn w = oddIn (w / 65536)
 
--- what an open with this full size and these flag bits says, by the rule of open
-unfoldable pub labelOf : ℕ → ℕ → Label
-labelOf full flags =
-    labelBy
-    (record {
-      kind = kindNumber Open;
-      slot = 0;
-      flags = flags;
-      now = 0;
-      span = 0;
-      id = 0;
-      len = full % 65536;
-      acked = 0;
-    })
+-- what an open with these flags says, its full size the 16 lowest bits of a word
+unfoldable pub labelFrom : ℕ → ℕ → Label
+labelFrom w flags = labelOf (w % 65536) flags
 
 -- what the slot's open said
 abbrev pub labelIn : ℕ → Label
-labelIn w = labelOf w (w / 131072)
+labelIn w = labelFrom w (w / 131072)
 
 -- the settings of a record
 unfoldable pub settingsIn : List ℕ → Settings

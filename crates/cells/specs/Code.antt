@@ -19,11 +19,13 @@ use Rattle.seek.specs.declared.types.Ladder.{Ladder}
 use Rattle.stop.specs.declared.types.MaybeStop.{MaybeStop}
 use Rattle.stop.specs.declared.types.MaybeStop.the-variants as stop
 use Rattle.live.specs.declared.types.Traffic.{Traffic}
-use Rattle.image.specs.Image.{timeTag, timeOrZero, etxBits}
+use Rattle.base.specs.Missing.{timeTag, timeOrZero}
+use Rattle.total.specs.Patterns.{etxBits}
 use Rattle.select.specs.declared.types.Medium.{Medium}
 use Rattle.select.specs.declared.types.Medium.the-variants as medium
 use Rattle.select.specs.declared.types.Role.{Role}
 use Rattle.select.specs.declared.types.Role.the-variants as role
+use Rattle.rules.specs.Event.{roleWeight, pinnedWeight, fitsWeight, preferredWeight}
 use Rattle.rules.specs.declared.types.Event.{Event}
 use Rattle.rules.specs.declared.types.Label.{Label}
 use Rattle.rules.specs.declared.types.Settings.{Settings}
@@ -114,11 +116,11 @@ roleBits role.Backup = 1
 roleBits role.Normal = 2
 roleBits role.Preferred = 3
 
--- the flags of an open that says this
+-- the flags of an open that says this: the one whose label it is (`label-flags`)
 abbrev pub flagBits : Label → ℕ
 flagBits l =
-    mediumBits (l .medium) + 4 * roleBits (l .role) + 16 * flagOf (l .pinned) + 32 * flagOf (l .fits)
-    + 64 * flagOf (l .preferred)
+    mediumBits (l .medium) + roleWeight * roleBits (l .role) + pinnedWeight * flagOf (l .pinned)
+    + fitsWeight * flagOf (l .fits) + preferredWeight * flagOf (l .preferred)
 
 -- whether a slot holds a path, and what its open said
 unfoldable pub labelWord : Bool → Label → ℕ

@@ -1,6 +1,2 @@
-// Rows of four words: what a row says, and the row that says a given thing.
-pub mod events;
-pub mod marks;
-pub mod measures;
-pub mod probes;
+// Rows of four words, whose definitions say what a row says, and the row that says a given thing; here the single words.
 pub mod words;

@@ -1,9 +1,9 @@
 -- The whole run, by what the pass that writes nothing has told.
 -- Assumes nothing.
 use Prim.Native.Nat.{ℕ, suc, _+_, _-_, _*_, _/_, _≤_, _<_}
-use mathlib.Core.Bool.{Bool, true, false, cond}
-use mathlib.Core.Path.{_≡_, refl, sym, ap, _∙_}
-use mathlib.Core.List.{List, [], _∷_, _++_}
+use mathlib.Core.Bool.{Bool, true, false, not, _&&_, cond}
+use mathlib.Core.Path.{_≡_, refl, sym, ap, subst, _∙_}
+use mathlib.Core.List.{List, [], _∷_, _++_, map}
 use native.Mathlib.Omega.{arith}
 use borrow.Author.Tests.{le-leb, lt-leb, le-ltb, lt-ltb, leb-true}
 use borrow.Rule.Slice.PartMut.{midOf, putMid}
@@ -18,67 +18,120 @@ use Rattle.octets.proofs.Fill.{Filled, fill, filled-over, flat-length, over-fit
 use Rattle.rules.specs.Event.{numberOf}
 use Rattle.rules.specs.Step.{Entry, allowed, step, freshRecord, recordOf, run, trace}
 use Rattle.rules.specs.declared.types.Settings.{Settings}
-use Rattle.rules.specs.declared.types.Stepped.{Stepped}
+use Rattle.rules.specs.declared.types.Reply.{Reply}
 use Rattle.rules.specs.declared.types.Reply.the-variants as reply
 use Rattle.rules.specs.declared.types.Event.{Event}
 use Rattle.rules.specs.declared.types.Record.{Record}
 use Rattle.standing.specs.Standing.{fit}
 use Rattle.standing.specs.declared.types.Written.the-variants as written
 use Rattle.eventfile.specs.File.{settingsOf, eventsOf, endingOf}
+use Rattle.cells.specs.Code.{settingsRow}
+use Rattle.rows.specs.View.{slotIn}
+use Rattle.peer.specs.Record.{recordIn, recordRows, AreCoded}
+use Rattle.peer.proofs.FreshLaws.{made-row, made-coded, fresh-in}
 use Rattle.eventrun.specs.Runs.{entryBytes, standingsOf, outputOf, endVerdict, endedBy, fileWritten, outBy, outOf}
-use Rattle.eventrun.specs.Runs.{passOf, notRun, planOf}
+use Rattle.eventrun.specs.Runs.{Leaves, passOf, notRun, planOf, isMade, plannedRow, plannedRows, Plans}
 use Rattle.eventrun.specs.declared.types.Verdict.{Verdict}
 use Rattle.eventrun.specs.declared.types.Verdict.the-variants as verdict
 use Rattle.eventrun.specs.declared.types.Scan.{Scan}
-use Rattle.eventrun.proofs.AnswerLaws.{words-two, answersIn}
+use Rattle.eventrun.proofs.AnswerLaws.{words-two, fitting, answersIn}
 
 -- ---- the plan
 
 -- by the tests
 plan-by : (file : List ℕ) {a b : Bool} → ltb (length file) 32 ≡ a → allowed (settingsOf file) ≡ b
-    → planOf file ≡ cond a (notRun (freshRecord (settingsOf file)) refusal.Cut)
-    (cond b (passOf file (freshRecord (settingsOf file))) (notRun (freshRecord (settingsOf file)) refusal.Duration))
+    → planOf file ≡ cond a (notRun refusal.Cut) (cond b (passOf file) (notRun refusal.Duration))
 unfolding planOf
-plan-by file p q =
-    λ i. cond (p i) (notRun (freshRecord (settingsOf file)) refusal.Cut)
-    (cond (q i) (passOf file (freshRecord (settingsOf file)))
-    (notRun (freshRecord (settingsOf file)) refusal.Duration))
+plan-by file p q = λ i. cond (p i) (notRun refusal.Cut) (cond (q i) (passOf file) (notRun refusal.Duration))
 
-module _ (file : List ℕ) {t : Settings} {o : Stepped} (a : t ≡ settingsOf file) (e : o ≡ recordOf t) where
-  made : o ≡ recordOf (settingsOf file)
-  made = e ∙ ap recordOf a
+-- and the words after it
+made-by : (file : List ℕ) {c d : Bool} → ltb (length file) 32 ≡ c → allowed (settingsOf file) ≡ d
+    → isMade file ≡ (not c && d)
+made-by file p q = λ i. not (p i) && q i
 
-  made-next : o .next ≡ freshRecord (settingsOf file)
-  unfolding recordOf
-  made-next = ap (λ (s : Stepped). s .next) made
+-- where no record is made, the words stay
+unmade : (file t : List ℕ) (a : List (List (List ℕ))) → isMade file ≡ false → Plans file t t a a
+unfolding plannedRow plannedRows
+unmade file t a q =
+    record {
+      row = λ i. cond (sym q i) (settingsRow (settingsOf file)) t;
+      words = λ i. cond (sym q i) (recordRows (run (freshRecord (settingsOf file)) (eventsOf file))) a;
+      says = λ m. never m q;
+    }
 
-  -- the settings are cut short
-  pub plan-cut : length file < 32 → notRun (o .next) refusal.Cut ≡ planOf file
-  plan-cut h = (λ i. notRun (made-next i) refusal.Cut) ∙ sym (plan-by file (lt-ltb (length file) 32 h) refl)
+-- the settings are cut short
+pub plan-cut : (file t : List ℕ) (a : List (List (List ℕ))) → length file < 32
+    → (notRun refusal.Cut ≡ planOf file) × Plans file t t a a
+plan-cut file t a h =
+    let c = lt-ltb (length file) 32 h in
+    (sym (plan-by file c refl), unmade file t a (made-by file c refl))
 
-  module _ (h : 32 ≤ length file) {n : ℕ} (k : n ≡ numberOf (o .reply)) where
-    number-by : (b : Bool) → allowed (settingsOf file) ≡ b → n ≡ cond b 0 6
+-- a call of `new` with the file's settings
+module _ (file t : List ℕ) (a : List (List (List ℕ))) {s : Settings} {x : Reply} {u : List ℕ} {b : List (List (List ℕ))}
+    (e : s ≡ settingsOf file) (n : (x ≡ recordOf s .reply) × (u ≡ cond (allowed s) (settingsRow s) t)
+    × (b ≡ cond (allowed s) (recordRows (freshRecord s)) a)) where
+  row : u ≡ cond (allowed (settingsOf file)) (settingsRow (settingsOf file)) t
+  row = n .1 ∙ (λ i. cond (allowed (e i)) (settingsRow (e i)) t)
+
+  words : b ≡ cond (allowed (settingsOf file)) (recordRows (freshRecord (settingsOf file))) a
+  words = n .2 ∙ (λ i. cond (allowed (e i)) (recordRows (freshRecord (e i))) a)
+
+  -- a record is made
+  pub begun : allowed (settingsOf file) ≡ true
+      → (u ≡ settingsRow (settingsOf file)) × (recordIn u b ≡ freshRecord (settingsOf file)) × AreCoded b
+  begun q = (
+    made-row (settingsOf file) t a q row words,
+    fresh-in (settingsOf file) t a q row words,
+    made-coded (settingsOf file) t a q row words,
+  )
+
+  module _ (h : 32 ≤ length file) {k : ℕ} (v : k ≡ numberOf x) where
+    number-by : (d : Bool) → allowed (settingsOf file) ≡ d → k ≡ cond d 0 6
     unfolding recordOf
     number-by true q =
-        k ∙ ap (λ (s : Stepped). numberOf (s .reply)) made
+        v ∙ ap numberOf (n .0) ∙ (λ i. numberOf (recordOf (e i) .reply))
         ∙ (λ i. numberOf (cond (q i) reply.Nothing (reply.Refused refusal.Duration)))
     number-by false q =
-        k ∙ ap (λ (s : Stepped). numberOf (s .reply)) made
+        v ∙ ap numberOf (n .0) ∙ (λ i. numberOf (recordOf (e i) .reply))
         ∙ (λ i. numberOf (cond (q i) reply.Nothing (reply.Refused refusal.Duration)))
 
-    -- a record is made
-    pub plan-scan : n ≡ 0 → {r : Scan} → r ≡ passOf file (o .next) → r ≡ planOf file
-    plan-scan z {r} f =
-        on-flag (allowed (settingsOf file))
-        (λ q. f ∙ ap (passOf file) made-next ∙ sym (plan-by file (le-ltb (length file) 32 h) q))
+    long : ltb (length file) 32 ≡ false
+    long = le-ltb (length file) 32 h
+
+    -- one is, and the events are run on it
+    scanned : {d : List (List (List ℕ))} → allowed (settingsOf file) ≡ true → Leaves u b d (eventsOf file)
+        → Plans file t u a d
+    unfolding plannedRow plannedRows
+    scanned {d} q f =
+        let made : isMade file ≡ true = made-by file long q in
+        let told : recordIn u d ≡ run (freshRecord (settingsOf file)) (eventsOf file) =
+        f .says ∙ (λ i. run (begun q .1 i) (eventsOf file)) in
+        record {
+          row = begun q .0 ∙ (λ i. cond (sym made i) (settingsRow (settingsOf file)) t);
+          words =
+              sym (f .coded (begun q .2)) ∙ ap recordRows told
+              ∙ (λ i. cond (sym made i) (recordRows (run (freshRecord (settingsOf file)) (eventsOf file))) a);
+          says = λ m. told;
+        }
+
+    pub plan-scan : k ≡ 0 → {r : Scan} {d : List (List (List ℕ))} → (r ≡ passOf file) × Leaves u b d (eventsOf file)
+        → (r ≡ planOf file) × Plans file t u a d
+    plan-scan z {r} {d} f =
+        on-flag (allowed (settingsOf file)) (λ q. (f .0 ∙ sym (plan-by file long q), scanned q (f .1)))
         (λ q. absurd (omega (arith, z, number-by false q)))
 
     -- none is
-    pub plan-large : (n ≡ 0 → ⊥) → notRun (o .next) refusal.Duration ≡ planOf file
+    pub plan-large : (k ≡ 0 → ⊥) → (notRun refusal.Duration ≡ planOf file) × Plans file t u a b
     plan-large z =
-        on-flag (allowed (settingsOf file))
-        (λ q. absurd (z (number-by true q)))
-        (λ q. (λ i. notRun (made-next i) refusal.Duration) ∙ sym (plan-by file (le-ltb (length file) 32 h) q))
+        on-flag (allowed (settingsOf file)) (λ q. absurd (z (number-by true q)))
+        (λ q. (sym (plan-by file long q), kept q))
+      where
+        kept : allowed (settingsOf file) ≡ false → Plans file t u a b
+        kept q =
+            let c : u ≡ t = row ∙ (λ i. cond (q i) (settingsRow (settingsOf file)) t) in
+            let d : b ≡ a = words ∙ (λ i. cond (q i) (recordRows (freshRecord (settingsOf file))) a) in
+            subst (λ (z : List (List (List ℕ))). Plans file t u a z) (sym d)
+            (subst (λ (z : List ℕ). Plans file t z a a) (sym c) (unmade file t a (made-by file long q)))
 
 -- the run is by the plan's end
 pub ran-by : (file : List ℕ) (lent : ℕ) → fileWritten file lent ≡ endedBy (planOf file .end) (fit (outputOf file) lent)
@@ -89,10 +142,7 @@ ran-by file lent = go (ltb (length file) 32) (allowed (settingsOf file))
         → cond a (written.Refused refusal.Cut)
         (cond b (endedBy (endVerdict (endingOf file)) (fit (outputOf file) lent)) (written.Refused refusal.Duration))
         ≡ endedBy
-        (cond a (notRun (freshRecord (settingsOf file)) refusal.Cut)
-        (cond b (passOf file (freshRecord (settingsOf file)))
-        (notRun (freshRecord (settingsOf file)) refusal.Duration))
-        .end)
+        (cond a (notRun refusal.Cut) (cond b (passOf file) (notRun refusal.Duration)) .end)
         (fit (outputOf file) lent)
     go true b = refl
     go false true = refl
@@ -115,22 +165,25 @@ whole-not {C} {why} e = never {t = isBad (verdict.Bad why)} refl (ap isBad e)
     isBad verdict.Whole = false
     isBad (verdict.Bad why) = true
 
+-- a record is made of settings that are allowed
+made-allowed : (file : List ℕ) → isMade file ≡ true → allowed (settingsOf file) ≡ true
+made-allowed file = go (ltb (length file) 32) (allowed (settingsOf file))
+  where
+    go : (a b : Bool) → (not a && b) ≡ true → b ≡ true
+    go true b e = never e refl
+    go false b e = e
+
 -- only a scan ends whole
 pub plan-whole : (file : List ℕ) → planOf file .end ≡ verdict.Whole
-    → planOf file ≡ passOf file (freshRecord (settingsOf file))
+    → (planOf file ≡ passOf file) × (isMade file ≡ true)
 unfolding planOf
 plan-whole file = go (ltb (length file) 32) (allowed (settingsOf file))
   where
-    first : Record
-    first = freshRecord (settingsOf file)
-
-    go : (a b : Bool)
-        → cond a (notRun first refusal.Cut) (cond b (passOf file first) (notRun first refusal.Duration)) .end
-        ≡ verdict.Whole
-        → cond a (notRun first refusal.Cut) (cond b (passOf file first) (notRun first refusal.Duration))
-        ≡ passOf file first
+    go : (a b : Bool) → cond a (notRun refusal.Cut) (cond b (passOf file) (notRun refusal.Duration)) .end ≡ verdict.Whole
+        → (cond a (notRun refusal.Cut) (cond b (passOf file) (notRun refusal.Duration)) ≡ passOf file)
+        × ((not a && b) ≡ true)
     go true b e = whole-not e
-    go false true e = refl
+    go false true e = (refl, refl)
     go false false e = whole-not e
 
 -- ---- the output
@@ -142,92 +195,102 @@ trace-length r (e ∷ es) = ap suc (trace-length (step r e .next) es)
 pub answers-length : (l : List Entry) → length (flat entryBytes l) ≡ 16 * length l
 answers-length l = flat-length entryBytes 16 (λ x. words-two (x .number) (x .value)) l
 
--- what a whole plan knows
-module _ (file l : List ℕ) {p : Scan} {told : ℕ} (e : p ≡ planOf file) (q : p .end ≡ verdict.Whole)
-    (t : told ≡ length (standingsOf (p .rec .slots)))
+-- what a whole plan knows; d are the words after it, and z those after a second pass over as many events as fit
+module _ (file l : List ℕ) {p : Scan} {told : ℕ} {t u : List ℕ} {a d : List (List (List ℕ))}
+    (e : (p ≡ planOf file) × Plans file t u a d) (q : p .end ≡ verdict.Whole)
+    (m : told ≡ length (standingsOf (map slotIn d)))
   where
-    plain : p ≡ passOf file (freshRecord (settingsOf file))
-    plain = e ∙ plan-whole file (ap (λ (s : Scan). s .end) (sym e) ∙ q)
+    whole : (planOf file ≡ passOf file) × (isMade file ≡ true)
+    whole = plan-whole file (ap (λ (s : Scan). s .end) (sym (e .0)) ∙ q)
 
     is-count : p .count ≡ length (eventsOf file)
     unfolding passOf
-    is-count = ap (λ (s : Scan). s .count) plain
+    is-count = ap (λ (s : Scan). s .count) (e .0 ∙ whole .0)
 
-    is-rec : p .rec ≡ run (freshRecord (settingsOf file)) (eventsOf file)
-    unfolding passOf
-    is-rec = ap (λ (s : Scan). s .rec) plain
+    abbrev pub last : Record
+    last = run (freshRecord (settingsOf file)) (eventsOf file)
 
     abbrev pub all : List Entry
     all = trace (freshRecord (settingsOf file)) (eventsOf file)
 
+    told-is : told ≡ length (standingsOf (last .slots))
+    told-is = m ∙ (λ i. length (standingsOf (e .1 .says (whole .1) i .slots)))
+
     answers-are : length (flat entryBytes all) ≡ 16 * p .count
     answers-are = answers-length all ∙ ap (λ (n : ℕ). 16 * n) (trace-length _ (eventsOf file) ∙ sym is-count)
 
-    output-is : flat entryBytes all ++ standingsOf (p .rec .slots) ≡ outputOf file
-    unfolding outputOf
-    output-is = ap (λ (r : Record). flat entryBytes all ++ standingsOf (r .slots)) is-rec
-
     output-length : 16 * p .count + told ≡ length (outputOf file)
+    unfolding outputOf
     output-length =
-        (λ i. sym answers-are i + t i)
-        ∙ sym (length-append (flat entryBytes all) (standingsOf (p .rec .slots)))
-        ∙ ap length output-is
+        (λ i. sym answers-are i + told-is i) ∙ sym (length-append (flat entryBytes all) (standingsOf (last .slots)))
 
     ran-whole : fileWritten file (length l) ≡ fit (outputOf file) (length l)
     ran-whole =
         ran-by file (length l)
-        ∙ (λ i. endedBy ((ap (λ (s : Scan). s .end) (sym e) ∙ q) i) (fit (outputOf file) (length l)))
+        ∙ (λ i. endedBy ((ap (λ (s : Scan). s .end) (sym (e .0)) ∙ q) i) (fit (outputOf file) (length l)))
 
     -- 16
     pub run-lent : {b : Bool} → b ≡ leb (16 * p .count + told) (length l) → b ≡ false
         → (written.Refused refusal.Lent ≡ fileWritten file (length l)) × (l ≡ outOf file l)
     unfolding outOf
-    run-lent {b} a f =
+    run-lent {b} c f =
         let z : leb (length (outputOf file)) (length l) ≡ false =
-        (λ i. leb (sym output-length i) (length l)) ∙ sym a ∙ f in
+        (λ i. leb (sym output-length i) (length l)) ∙ sym c ∙ f in
         let k : fileWritten file (length l) ≡ written.Refused refusal.Lent =
         ran-whole ∙ (λ i. cond (z i) (written.Count (length (outputOf file))) (written.Refused refusal.Lent)) in
         (sym k, λ i. outBy (sym k i) (over (outputOf file) l) l)
 
     -- all is written
-    module _ {b : Bool} (a : b ≡ leb (16 * p .count + told) (length l)) (f : b ≡ true) where
+    module _ {b : Bool} (c : b ≡ leb (16 * p .count + told) (length l)) (f : b ≡ true) where
       pub run-room : 16 * p .count + told ≤ length l
-      run-room = leb-true (16 * p .count + told) (length l) (sym a ∙ f)
+      run-room = leb-true (16 * p .count + told) (length l) (sym c ∙ f)
 
-      taken : answersIn file (freshRecord (settingsOf file)) (length l) ≡ flat entryBytes all
-      taken =
-          let n = trace-length (freshRecord (settingsOf file)) (eventsOf file) in
-          ap (flat entryBytes) (take-all (length l / 16) all (omega (arith, run-room, is-count, n)))
+      all-fit : fitting file (length l) ≡ eventsOf file
+      all-fit = take-all (length l / 16) (eventsOf file) (omega (arith, run-room, is-count))
 
-      pub run-answers : {r : Record} {l₁ : List ℕ} → r ≡ freshRecord (settingsOf file)
-          → l₁ ≡ over (answersIn file r (length l)) l
-          → Filled l (flat entryBytes all) l₁ (16 * p .count)
-      run-answers {r} {l₁} g h =
-          let k : l₁ ≡ over (flat entryBytes all) l =
-          h ∙ (λ i. over (answersIn file (g i) (length l)) l) ∙ ap (λ (z : List ℕ). over z l) taken in
-          record {
-            long = answers-are;
-            room = omega (arith, run-room);
-            is =
-                k ∙ over-fits (flat entryBytes all) l (omega (arith, answers-are, run-room))
-                ∙ ap (λ (n : ℕ). flat entryBytes all ++ drop n l) answers-are;
-          }
+      -- a second `new`, and the answers of the events
+      module _ {s : Settings} {x : Reply} {v : List ℕ} {g y : List (List (List ℕ))} {l₁ : List ℕ}
+          (k : s ≡ settingsOf file)
+          (n : (x ≡ recordOf s .reply) × (v ≡ cond (allowed s) (settingsRow s) u)
+          × (g ≡ cond (allowed s) (recordRows (freshRecord s)) d))
+          (o : (l₁ ≡ over (answersIn file (recordIn v g) (length l)) l) × Leaves v g y (fitting file (length l)))
+        where
+          again : recordIn v g ≡ freshRecord (settingsOf file)
+          again = begun file u d k n (made-allowed file (whole .1)) .1
 
-      pub run-whole : {l₁ m : List ℕ} → Filled l (flat entryBytes all) l₁ (16 * p .count)
-          → m ≡ over (standingsOf (p .rec .slots)) (midOf (16 * p .count) (length l₁ - 16 * p .count) l₁)
-          → (written.Count (16 * p .count + told) ≡ fileWritten file (length l))
-          × (putMid (16 * p .count) (length l₁ - 16 * p .count) l₁ m ≡ outOf file l)
-      unfolding outOf
-      run-whole {l₁} {m} g h =
-          let n = output-length in
-          let z : leb (length (outputOf file)) (length l) ≡ true =
-          le-leb (length (outputOf file)) (length l) (omega (arith, n, run-room)) in
-          let k : fileWritten file (length l) ≡ written.Count (length (outputOf file)) =
-          ran-whole ∙ (λ i. cond (z i) (written.Count (length (outputOf file))) (written.Refused refusal.Lent)) in
-          let x = fill (standingsOf (p .rec .slots)) g (omega (arith, t, run-room)) h in (
-            ap (λ (c : ℕ). written.Count c) n ∙ sym k,
-            filled-over x ∙ ap (λ (c : List ℕ). over c l) output-is ∙ (λ i. outBy (sym k i) (over (outputOf file) l) l),
-          )
+          pub run-last : map slotIn y ≡ last .slots
+          run-last =
+              ap (λ (r : Record). r .slots) (o .1 .says ∙ (λ i. run (again i) (all-fit i)))
+
+          pub run-answers : Filled l (flat entryBytes all) l₁ (16 * p .count)
+          run-answers =
+              let z : l₁ ≡ over (flat entryBytes all) l =
+              o .0 ∙ (λ i. over (flat entryBytes (trace (again i) (all-fit i))) l) in
+              record {
+                long = answers-are;
+                room = omega (arith, run-room);
+                is =
+                    z ∙ over-fits (flat entryBytes all) l (omega (arith, answers-are, run-room))
+                    ∙ ap (λ (n : ℕ). flat entryBytes all ++ drop n l) answers-are;
+              }
+
+          pub run-whole : {w : List ℕ}
+              → w ≡ over (standingsOf (map slotIn y)) (midOf (16 * p .count) (length l₁ - 16 * p .count) l₁)
+              → (written.Count (16 * p .count + told) ≡ fileWritten file (length l))
+              × (putMid (16 * p .count) (length l₁ - 16 * p .count) l₁ w ≡ outOf file l)
+          unfolding outOf outputOf
+          run-whole {w} h =
+              let n = output-length in
+              let z : leb (length (outputOf file)) (length l) ≡ true =
+              le-leb (length (outputOf file)) (length l) (omega (arith, n, run-room)) in
+              let k : fileWritten file (length l) ≡ written.Count (length (outputOf file)) =
+              ran-whole ∙ (λ i. cond (z i) (written.Count (length (outputOf file))) (written.Refused refusal.Lent)) in
+              let h′ : w ≡ over (standingsOf (last .slots)) (midOf (16 * p .count) (length l₁ - 16 * p .count) l₁) =
+              h ∙ (λ i. over (standingsOf (run-last i)) (midOf (16 * p .count) (length l₁ - 16 * p .count) l₁)) in
+              let x = fill (standingsOf (last .slots)) run-answers (omega (arith, told-is, run-room)) h′ in (
+                ap (λ (c : ℕ). written.Count c) n ∙ sym k,
+                filled-over x ∙ (λ i. outBy (sym k i) (over (outputOf file) l) l),
+              )
 
 -- ---- whether all fits
 

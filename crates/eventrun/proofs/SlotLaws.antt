@@ -3,10 +3,10 @@
 use Prim.Native.Nat.{ℕ, zero, suc, _+_, _-_, _≤_, _<_}
 use mathlib.Core.Bool.{Bool, true, false, cond}
 use mathlib.Core.Path.{_≡_, refl, sym, ap, _∙_}
-use mathlib.Core.List.{List, [], _∷_, _++_}
+use mathlib.Core.List.{List, [], _∷_, _++_, map}
 use native.Mathlib.Omega.{arith}
 use borrow.Rule.Slice.PartMut.{midOf, putMid}
-use lib.ListN.{length, getD, length-append}
+use lib.ListN.{length, getD, length-append, List·getD-map}
 use Rattle.octets.specs.Octets.{le, flat, over}
 use Rattle.octets.proofs.Fill.{Filled, nothing, fill, filled-over, le-length, over-not}
 use Rattle.rules.specs.declared.types.Slot.{Slot}
@@ -14,6 +14,7 @@ use Rattle.standing.specs.Standing.{standingOf, standingBytes}
 use Rattle.standing.specs.declared.types.Standing.{Standing}
 use Rattle.standing.proofs.Laying.{Laying, laying-start, laying-room, laying-next, laying-end}
 use Rattle.standing.proofs.Laying.{Adding, adding-start, adding-next, adding-end}
+use Rattle.rows.specs.View.{slotIn}
 use Rattle.eventrun.specs.Runs.{slotBytes, slotSize, standingsFrom}
 
 -- ---- numbered slots
@@ -113,6 +114,15 @@ same-size : (l : List Slot) (i : ℕ) (d : Slot) → i < length l
     → slotSize (getD l i d) ≡ length (bytesAt (getD (numbered 0 l) i (0, d)))
 same-size l i d h =
     sym (slot-length i (getD l i d)) ∙ ap (λ (x : ℕ × Slot). length (bytesAt x)) (sym (numbered-at l i d h))
+
+-- a slot in words, as one of those that they say
+pub size-at : (a : List (List (List ℕ))) (i : ℕ) {n : ℕ} → n ≡ slotSize (slotIn (getD a i []))
+    → n ≡ slotSize (getD (map slotIn a) i (slotIn []))
+size-at a i e = e ∙ ap slotSize (sym (List·getD-map slotIn a i []))
+
+pub bytes-at : (a : List (List (List ℕ))) (i : ℕ) (l : List ℕ) {m : List ℕ} → m ≡ over (slotBytes i (slotIn (getD a i []))) l
+    → m ≡ over (slotBytes i (getD (map slotIn a) i (slotIn []))) l
+bytes-at a i l e = e ∙ ap (λ (s : Slot). over (slotBytes i s) l) (sym (List·getD-map slotIn a i []))
 
 module _ (l : List Slot) (eight : length l ≡ 8) where
   pub sizes-start : Adding bytesAt 52 (numbered 0 l) 8 0 0

@@ -1,14 +1,14 @@
-// The events of a file on a fresh record: their answers and the standings of the paths, written into lent bytes.
+// The events of a file on a fresh record: their answers and the standings of the paths, written into lent bytes. The
+// record lies in words of the call itself.
 ghost use mathlib.Core.Path.{_≡_};
 ghost use Prim.Native.Nat.{_+_, _*_};
 ghost use lib.Dec.{leb};
 ghost use lib.ListN.{length};
-ghost use Rattle.rules.specs.Step.{freshRecord};
-ghost use Rattle.eventfile.specs.File.{settingsOf};
 ghost use Rattle.eventfile.specs.Claim.{FileDemand};
-ghost use Rattle.eventrun.specs.Runs.{planOf, fileWritten, outOf};
+ghost use Rattle.eventrun.specs.Runs.{planOf, Plans, fileWritten, outOf};
 use base::types::Refusal;
-use rules::types::*;
+use rows::places::ROWS;
+use select::types::PATH_MAX_PER_PEER;
 use standing::types::Written;
 use types::*;
 
@@ -16,34 +16,22 @@ pub mod passes;
 pub mod slots;
 pub mod types;
 
-// A fresh record with a file's settings.
-fn first(file: &[u8]) -> Record
-    ensures { λ r. ⌜ r ≡ freshRecord (settingsOf (now (file .entry))) ⌝ }
+// What a file's events come to, with the words of the record after them; 13 or 6 where no record is made.
+fn plan(t: &mut [u64; 4], rec: &mut [[[u64; 4]; ROWS]; PATH_MAX_PER_PEER], file: &[u8]) -> Scan
+    ensures { λ r. ⌜ (r ≡ planOf (now (file .entry)))
+        × Plans (now (file .entry)) (now (t .entry)) (now (t .exit)) (now (rec .entry)) (now (rec .exit)) ⌝ }
 {
-    let made = peer::record::new(eventfile::settings_from(file));
-    let next = made.next;
-    next
-}
-
-// What a file's events come to, before anything is written; 13 or 6 where no record is made.
-fn plan(file: &[u8]) -> Scan
-    ensures { λ r. ⌜ r ≡ planOf (now (file .entry)) ⌝ }
-{
-    let made = peer::record::new(eventfile::settings_from(file));
-    let next = made.next;
-    let reply = made.reply;
     if file.len() < 32 {
         return Scan {
-            rec: next,
             count: 0,
             end: Verdict::Bad(Refusal::Cut),
         };
     }
-    if turns::reply::number_of(reply) == 0 {
-        return passes::scan(file, next);
+    let made = peer::record::new(t, rec, eventfile::settings_from(file));
+    if refusals::reply::number_of(made) == 0 {
+        return passes::scan(t, rec, file);
     }
     Scan {
-        rec: next,
         count: 0,
         end: Verdict::Bad(Refusal::Duration),
     }
@@ -65,19 +53,22 @@ pub fn run_events(file: &[u8], out: &mut [u8]) -> Written
     ensures { λ r. ⌜ (r ≡ fileWritten (now (file .entry)) (length (now (out .entry))))
         × ((now (out .exit) ≡ outOf (now (file .entry)) (now (out .entry))) × FileDemand (now (file .entry))) ⌝ }
 {
-    let p = plan(file);
+    let word = [0u64; 4];
+    let path = [word; ROWS];
+    let mut t = [0u64; 4];
+    let mut rec = [path; PATH_MAX_PER_PEER];
+    let p = plan(&mut t, &mut rec, file);
     let end = p.end;
-    let rec = p.rec;
-    let slots = rec.slots;
     let count = p.count;
-    let told = slots::slots_size(slots);
     match end {
         Verdict::Bad(why) => Written::Refused(why),
         Verdict::Whole => {
+            let told = slots::slots_size(&rec);
             if fits(count, told, out.len()) {
-                passes::write_answers(file, first(file), out);
+                peer::record::new(&mut t, &mut rec, eventfile::settings_from(file));
+                passes::write_answers(&t, &mut rec, file, out);
                 let at = 16 * count;
-                slots::write_slots(slots, &mut out[at..]);
+                slots::write_slots(&rec, &mut out[at..]);
                 return Written::Count(at + told);
             }
             Written::Refused(Refusal::Lent)

@@ -16,7 +16,8 @@ use lib.ListN.{length, take, drop, set, replicate, length-set, length-drop}
 use lib.Seq.{take-all, take-suc-set, drop-drop}
 use Rattle.select.specs.Rivals.{noRival}
 use Rattle.select.specs.declared.types.Rival.{Rival}
-use Rattle.fields.specs.Fields.{rivalLen, fieldLen, floatOf, bitOf, rivalFrom, rivalsFrom, fieldOf}
+use Rattle.total.specs.Patterns.{floatOf}
+use Rattle.fields.specs.Fields.{rivalLen, fieldLen, bitOf, rivalFrom, rivalsFrom, fieldOf}
 use Rattle.select.specs.Media.{mediumOf}
 
 -- of n rivals of s those before i stand at the front of out, and the rest begins at `at`

@@ -5,8 +5,8 @@ use Prim.Native.Nat.{ℕ, zero, suc, _*_, _/_, _%_}
 use mathlib.Core.List.{List, [], _∷_}
 use mathlib.Core.Bool.{Bool, cond}
 use lib.Dec.{eqb, ltb}
-use lib.Ieee.{Float, binary64, ofBits}
 use lib.ListN.{length, drop, replicate}
+use Rattle.total.specs.Patterns.{floatOf}
 use Rattle.octets.specs.Octets.{readAt}
 use Rattle.select.specs.Media.{mediumOf}
 use Rattle.select.specs.Rivals.{maxPaths, noRival}
@@ -23,10 +23,6 @@ fieldLen = maxPaths * rivalLen
 -- the bytes of a pair of rivals
 abbrev pub pairLen : ℕ
 pairLen = 2 * rivalLen
-
--- the float of a pattern: every NaN's pattern is the one NaN's
-abbrev pub floatOf : ℕ → Float
-floatOf bits = ofBits binary64 bits
 
 -- an odd number is a mark that stands
 abbrev pub bitOf : ℕ → Bool

@@ -1,8 +1,9 @@
 // Rivals from bytes: twelve little-endian numbers of eight bytes for each.
 ghost use mathlib.Core.Path.{_≡_};
-ghost use Rattle.fields.specs.Fields.{floatOf, bitOf, rivalFrom, fieldOf};
+ghost use Rattle.fields.specs.Fields.{bitOf, rivalFrom, fieldOf};
 use octets::get;
 use select::types::*;
+use total::float_of;
 
 // The bytes of a rival.
 pub const RIVAL_LEN: usize = 96;
@@ -12,17 +13,6 @@ pub const FIELD_LEN: usize = PATH_MAX_PER_PEER * RIVAL_LEN;
 
 // The bytes of a pair of rivals.
 pub const PAIR_LEN: usize = 2 * RIVAL_LEN;
-
-// The float of a pattern; every NaN's pattern gives the one NaN.
-pub fn float_of(bits: u64) -> f64
-    ensures { λ r. ⌜ r ≡ floatOf bits ⌝ }
-{
-    if bits % 9223372036854775808 > 9218868437227405312 {
-        0.0 / 0.0
-    } else {
-        f64::from_bits(bits)
-    }
-}
 
 // Whether bit 0 of a number that was divided by a power of two is set.
 fn bit(x: u64) -> bool

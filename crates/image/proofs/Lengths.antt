@@ -19,7 +19,8 @@ use Rattle.live.specs.declared.types.Traffic.{Traffic}
 use Rattle.live.specs.declared.types.Liveness.{Liveness}
 use Rattle.octets.specs.Octets.{flat}
 use Rattle.octets.proofs.Fill.{flat-length}
-use Rattle.image.specs.Image.{timeWords, idsWords, stopWords, sentWords, sampleWords, spanWords, marksWords, countsWords, rttsWords, frontWords, imageWords, imageOf, etxBits}
+use Rattle.total.specs.Patterns.{etxBits}
+use Rattle.image.specs.Image.{timeWords, idsWords, stopWords, sentWords, sampleWords, spanWords, marksWords, countsWords, rttsWords, frontWords, imageWords, imageOf}
 use Rattle.image.proofs.PartLaws.{words-length}
 
 -- n elements of k words each

@@ -6,7 +6,8 @@ use Rattle.stop.specs.declared.types.Stop.{Stop}
 use Rattle.stop.specs.declared.types.MaybeStop.{MaybeStop}
 use Rattle.stop.specs.declared.types.MaybeStop.the-variants.{Some}
 use Rattle.base.specs.Seq.{flagOf}
-use Rattle.image.specs.Image.{timeTag, timeOrZero, stopWords}
+use Rattle.base.specs.Missing.{timeTag, timeOrZero}
+use Rattle.image.specs.Image.{stopWords}
 
 pub stop-made : {x : MaybeStop} {tag value owed : ℕ} (s : Stop) → x ≡ Some s → tag ≡ timeTag (s .until) → value ≡ timeOrZero (s .until) → owed ≡ flagOf (s .owed)
     → 1 ∷ s .free ∷ s .gap ∷ s .used ∷ tag ∷ value ∷ owed ∷ [] ≡ stopWords x

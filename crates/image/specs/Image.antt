@@ -2,15 +2,14 @@
 -- functions on numbers and bytes"): all that a path keeps as 225 numbers of eight bytes, so that the two are compared
 -- field by field. What may be missing is a tag, 1 or 0, and a value, 0 if missing.
 use mathlib.Core.List.{List, [], _∷_, _++_}
-use mathlib.Core.Bool.{cond}
 use Prim.Native.Nat.{ℕ}
-use lib.Ieee.{Float, binary64, isNan, toBits}
 use lib.ListN.{replicate}
 use Rattle.base.specs.Seq.{flagOf}
+use Rattle.base.specs.Missing.{timeTag, timeOrZero}
+use Rattle.total.specs.Patterns.{etxBits}
 use Rattle.base.specs.declared.types.MaybeId.{MaybeId}
 use Rattle.base.specs.declared.types.MaybeId.the-variants as id
 use Rattle.base.specs.declared.types.MaybeTime.{MaybeTime}
-use Rattle.base.specs.declared.types.MaybeTime.the-variants as time
 use Rattle.base.specs.declared.types.MaybeLen.{MaybeLen}
 use Rattle.base.specs.declared.types.MaybeLen.the-variants as len
 use Rattle.ring.specs.declared.types.Sent.{Sent}
@@ -37,14 +36,6 @@ idOrZero id.None = 0
 idOrZero (id.Some x) = x
 
 -- an instant or a duration that may be missing
-abbrev pub timeTag : MaybeTime → ℕ
-timeTag time.None = 0
-timeTag (time.Some t) = 1
-
-abbrev pub timeOrZero : MaybeTime → ℕ
-timeOrZero time.None = 0
-timeOrZero (time.Some t) = t
-
 abbrev pub timeWords : MaybeTime → List ℕ
 timeWords x = timeTag x ∷ timeOrZero x ∷ []
 
@@ -92,11 +83,6 @@ sampleWords s = flagOf (s .used) ∷ s .at ∷ s .rtt ∷ []
 -- a place of the spans: used, then what stands there
 abbrev pub spanWords : Span → List ℕ
 spanWords s = flagOf (s .used) ∷ s .from ∷ s .to ∷ s .rtt ∷ []
-
--- the ETX by its pattern; "only which NaN an operation on floats yields is left open", so every NaN is the quiet one
--- without a payload
-abbrev pub etxBits : Float → ℕ
-etxBits x = cond (isNan x) 0x7ff8_0000_0000_0000 (toBits binary64 x)
 
 -- the identifiers, the silence clock, the stop
 unfoldable pub marksWords : Ids → Silence → List ℕ

@@ -9,7 +9,7 @@ ghost use Rattle.octets.specs.Octets.{over};
 ghost use Rattle.image.specs.Image.{imageOf};
 use live::types::Liveness;
 use parts::*;
-use words::etx_bits;
+use total::etx_bits;
 
 // Writes the image over the first 1,800 of the lent bytes, or nothing where there are fewer; says whether it did.
 pub fn write_image(out: &mut [u8], path: Liveness) -> bool

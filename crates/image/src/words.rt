@@ -1,8 +1,8 @@
 // The numbers of each part of a path, in the order of the image.
 ghost use mathlib.Core.Path.{_≡_};
-ghost use Rattle.image.specs.Image.{idTag, idOrZero, timeTag, timeOrZero, lenTag, lenOrZero, sentWords, idsWords};
+ghost use Rattle.image.specs.Image.{idTag, idOrZero, lenTag, lenOrZero, sentWords, idsWords};
 ghost use Rattle.image.specs.Image.{timeWords, stopWords, sizeWords, trafficWords, sampleWords, spanWords};
-ghost use Rattle.image.specs.Image.{etxBits};
+use base::missing::*;
 use base::types::*;
 use live::types::*;
 use ring::types::*;
@@ -27,26 +27,6 @@ fn id_value(x: MaybeId) -> u64
     match x {
         MaybeId::None => 0,
         MaybeId::Some(id) => id as u64,
-    }
-}
-
-// Whether there is an instant or a duration.
-pub fn time_tag(x: MaybeTime) -> u64
-    ensures { λ r. ⌜ r ≡ timeTag x ⌝ }
-{
-    match x {
-        MaybeTime::None => 0,
-        MaybeTime::Some(t) => 1,
-    }
-}
-
-// The instant or the duration, or 0.
-pub fn time_value(x: MaybeTime) -> u64
-    ensures { λ r. ⌜ r ≡ timeOrZero x ⌝ }
-{
-    match x {
-        MaybeTime::None => 0,
-        MaybeTime::Some(t) => t,
     }
 }
 
@@ -182,14 +162,4 @@ pub fn span_words(s: Span) -> [u64; 4]
     ensures { λ r. ⌜ r ≡ spanWords s ⌝ }
 {
     [base::flag::flag(s.used), s.from, s.to, s.rtt]
-}
-
-// The pattern of the ETX: every NaN is the quiet one with no payload.
-pub fn etx_bits(x: f64) -> u64
-    ensures { λ r. ⌜ r ≡ etxBits x ⌝ }
-{
-    if x != x {
-        return 0x7ff8_0000_0000_0000;
-    }
-    f64::to_bits(x)
 }

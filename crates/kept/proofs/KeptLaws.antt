@@ -16,7 +16,7 @@ use Rattle.base.proofs.Cases.{on-flag, cond-cases}
 use Rattle.ring.specs.Ring.{maxWaiting, maxLate, noSent, firstFree, found, Closed}
 use Rattle.ring.specs.Lapse.{isPassed, deferOf, scanOf}
 use Rattle.ring.specs.declared.types.Sent.{Sent}
-use Rattle.ring.specs.declared.lapse.Scanned.{Scanned}
+use Rattle.ring.specs.declared.types.Scanned.{Scanned}
 use Rattle.ring.proofs.ClosedLaws.{closed-new, closed-long, closed-more, closed-out, closed-scan}
 use Rattle.ring.proofs.SweepLaws.{remember-long, sweep-long}
 use Rattle.rtt.proofs.RttLaws.{new-trips, sample-trips}

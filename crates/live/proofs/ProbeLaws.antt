@@ -14,7 +14,7 @@ use Rattle.ring.specs.Ring.{maxWaiting, maxLate, firstFree, dropSince, found, t
 use Rattle.ring.specs.Lapse.{isPassed, deferOf, scanOf, isPadded}
 use Rattle.ring.specs.declared.types.Sent.{Sent}
 use Rattle.ring.specs.declared.types.Ids.{Ids}
-use Rattle.ring.specs.declared.lapse.Scanned.{Scanned}
+use Rattle.ring.specs.declared.types.Scanned.{Scanned}
 use Rattle.stop.specs.Silence.{quietFrom}
 use Rattle.stop.specs.declared.types.Silence.{Silence}
 use Rattle.live.specs.Path.{withRing, withLate, withSilence, withIds, withLadder, withMisses}

@@ -12,7 +12,7 @@ use Rattle.ring.specs.Ids.{takenOf, nextIds, answeredIds, thawedIds, isCounted,
 use Rattle.ring.specs.Ring.{maxWaiting, maxLate, firstFree, dropSince, noSent, found, takenOut, remembered, swept}
 use Rattle.ring.specs.Lapse.{isPassed, deferOf, scanOf, isPadded}
 use Rattle.ring.specs.declared.types.Sent.{Sent}
-use Rattle.ring.specs.declared.lapse.Scanned.{Scanned}
+use Rattle.ring.specs.declared.types.Scanned.{Scanned}
 use Rattle.seek.specs.declared.types.Ladder.{Ladder}
 use Rattle.stop.specs.Silence.{quietFrom}
 use Rattle.live.specs.Path.{withRing, withLate, withSilence, withIds, withLadder, withMisses}

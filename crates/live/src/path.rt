@@ -106,7 +106,7 @@ impl Liveness {
     {
         let rtts = self.rtts;
         let samples = rtts.samples;
-        rtt::window::min_rtt(samples)
+        samples::min_rtt(samples)
     }
 
     // The largest round trip among the window's samples.
@@ -115,7 +115,7 @@ impl Liveness {
     {
         let rtts = self.rtts;
         let samples = rtts.samples;
-        rtt::window::max_rtt(samples)
+        samples::max_rtt(samples)
     }
 
     // The least round trip over the horizon.
@@ -124,7 +124,7 @@ impl Liveness {
     {
         let rtts = self.rtts;
         let spans = rtts.spans;
-        rtt::spans::base_rtt(spans)
+        spans::base_rtt(spans)
     }
 
     // Round-trip samples in the window.
@@ -133,7 +133,7 @@ impl Liveness {
     {
         let rtts = self.rtts;
         let samples = rtts.samples;
-        rtt::window::samples(samples)
+        samples::samples(samples)
     }
 
     // The smoothed expected transmission count.

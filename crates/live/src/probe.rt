@@ -16,8 +16,8 @@ impl Liveness {
     {
         let ids = self.ids;
         let next = ids.next_id;
-        let id = ring::ids::taken(next, draw);
-        let after = ring::ids::next_ids(ids, id);
+        let id = ids::taken(next, draw);
+        let after = ids::next_ids(ids, id);
         let mut out = self;
         out.ids = after;
         Taking { path: out, id: id }
@@ -38,10 +38,10 @@ impl Liveness {
             return refused(self, why);
         }
         let short = len as u16;
-        let kept = ring::ids::drop_since(self.ids, ring);
+        let kept = ids::drop_since(self.ids, ring);
         let next = kept.next_id;
-        let id = ring::ids::taken(next, draw);
-        let ids = ring::ids::next_ids(kept, id);
+        let id = ids::taken(next, draw);
+        let ids = ids::next_ids(kept, id);
         let silence = stop::silence::quiet_from(self.silence, at);
         let last = MaybeLen::Some(short);
         let ladder = Ladder {
@@ -75,7 +75,7 @@ impl Liveness {
         if slot < RING {
             let sent = ring[slot];
             let closed = ring::ring::take_out(ring, slot);
-            let ids = ring::ids::answered_ids(self.ids, id);
+            let ids = ids::answered_ids(self.ids, id);
             let mut out = self;
             out.ring = closed;
             out.ids = ids;
@@ -114,7 +114,7 @@ impl Liveness {
         let ring = self.ring;
         let traffic = self.traffic;
         let data_at = traffic.data_at;
-        let scanned = ring::lapse::scan(ring, data_at, cap, now, overdue);
+        let scanned = lapses::scan(ring, data_at, cap, now, overdue);
         let left = scanned.ring;
         let slot = scanned.slot;
         let mut out = self;
@@ -130,10 +130,10 @@ impl Liveness {
         let closed = ring::ring::take_out(left, slot);
         let late = self.late;
         let later = ring::ring::remember(late, sent);
-        let miss = ring::ids::counted(self.ids, sent.probe_id);
-        let fall = ring::ids::padded(self.ids, sent);
+        let miss = ids::counted(self.ids, sent.probe_id);
+        let fall = ids::padded(self.ids, sent);
         let fallen = fall | self.ladder.fallen;
-        let misses = ring::ids::missed(self.misses, miss);
+        let misses = ids::missed(self.misses, miss);
         out.ring = closed;
         out.late = later;
         out.ladder.fallen = fallen;
@@ -175,7 +175,7 @@ impl Liveness {
     pub fn thaw(self) -> Self
         ensures { λ r. ⌜ r ≡ thawOf self ⌝ }
     {
-        let ids = ring::ids::thawed_ids(self.ids);
+        let ids = ids::thawed_ids(self.ids);
         let mut out = self;
         out.ids = ids;
         out

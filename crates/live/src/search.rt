@@ -27,7 +27,7 @@ fn ring_search(s: Outcome, at: u64, gap: u64) -> Outcome
     let answer = s.answer;
     if answer.is_accepted() {
         let mut out = s.path;
-        let sizes = seek::search::seek_next(out.sizes, at, gap);
+        let sizes = seeking::seek_next(out.sizes, at, gap);
         out.sizes = sizes;
         return Outcome {
             path: out,
@@ -42,8 +42,8 @@ impl Liveness {
     pub fn fresh(self) -> Self
         ensures { λ r. ⌜ r ≡ freshOf self ⌝ }
     {
-        let ids = ring::ids::fresh_ids(self.ids);
-        let sizes = seek::search::fresh_sizes(self.sizes);
+        let ids = ids::fresh_ids(self.ids);
+        let sizes = seeking::fresh_sizes(self.sizes);
         let none = MaybeLen::None;
         let ladder = Ladder {
             last: none,
@@ -67,7 +67,7 @@ impl Liveness {
         if full < MIN_LEN {
             return Answer::Refused(Refusal::Length);
         }
-        let len = seek::ladder::size(self.ladder, full as u16);
+        let len = ladder::size(self.ladder, full as u16);
         Answer::Len(len)
     }
 
@@ -82,7 +82,7 @@ impl Liveness {
         if len < MIN_LEN {
             return refused(self, why);
         }
-        let done = seek::search::prove(self.sizes, len as u16);
+        let done = seeking::prove(self.sizes, len as u16);
         let sizes = done.sizes;
         let mut out = self;
         out.sizes = sizes;
@@ -103,7 +103,7 @@ impl Liveness {
         if full < MIN_LEN {
             return Answer::Refused(Refusal::Length);
         }
-        let len = seek::search::seek_size(self.sizes, full as u16, now);
+        let len = seeking::seek_size(self.sizes, full as u16, now);
         let why = Refusal::NoSize;
         len_or(len, why)
     }
@@ -119,7 +119,7 @@ impl Liveness {
         let taken = self.take_id(draw);
         let id = taken.id;
         let mut out = taken.path;
-        let sizes = seek::search::seek_send(out.sizes, at, len as u16, id);
+        let sizes = seeking::seek_send(out.sizes, at, len as u16, id);
         out.sizes = sizes;
         let answer = Answer::Id(id);
         Outcome {
@@ -152,7 +152,7 @@ impl Liveness {
             let why = Refusal::Duration;
             return refused(self, why);
         }
-        let done = seek::search::seek_answer(self.sizes, id, gap);
+        let done = seeking::seek_answer(self.sizes, id, gap);
         let found = done.len;
         match found {
             MaybeLen::None => {
@@ -183,7 +183,7 @@ impl Liveness {
         if MAX_LEN < acked {
             return refused(self, why);
         }
-        let done = seek::search::seek_proved(self.sizes, sent as u16, acked as u16, now);
+        let done = seeking::seek_proved(self.sizes, sent as u16, acked as u16, now);
         let sizes = done.sizes;
         let mut out = self;
         out.sizes = sizes;
@@ -207,7 +207,7 @@ impl Liveness {
         }
         let ids = self.ids;
         let answered = ids.answered;
-        let done = seek::search::seek_judge(self.sizes, answered, now, timeout, gap);
+        let done = seeking::seek_judge(self.sizes, answered, now, timeout, gap);
         let sizes = done.sizes;
         let mut out = self;
         out.sizes = sizes;

@@ -24,7 +24,7 @@ impl Liveness {
         if DURATION_END <= horizon {
             return refused(self, why);
         }
-        let rtts = rtt::rtts::sample(self.rtts, now, rtt, window, horizon);
+        let rtts = spans::rtts::sample(self.rtts, now, rtt, window, horizon);
         let mut out = self;
         out.rtts = rtts;
         let answer = Answer::Done;
@@ -57,7 +57,7 @@ impl Liveness {
         let rtts = self.rtts;
         let samples = rtts.samples;
         let last = rtts.rtt;
-        let largest = rtt::window::max_rtt(samples);
+        let largest = samples::max_rtt(samples);
         Answer::Time(rtt::times::timeout(last, largest, floor, cap))
     }
 

@@ -1,7 +1,7 @@
 // Reads four settings and the records of an event file from standard input, and writes a line for each record to
 // standard output, as document 01 has it under "Files and tail".
 //
-// Which lines the bytes give stands in the contracts of `pathrun`, and that it does not matter in what portions they
+// Which lines the bytes give stands in the contracts of `portions`, and that it does not matter in what portions they
 // come in its claim `portions`; what is done with the bytes that are held stands in those of `feed`. Left here, and
 // stated by no contract: that the bytes of standard input are read in their order, behind those that are held, and
 // that what a call wrote is written.
@@ -10,9 +10,9 @@
 use libc::STDERR_FILENO;
 use libc::STDIN_FILENO;
 use libc::STDOUT_FILENO;
-use pathrun::types::*;
 use rows::places::ROWS;
 use select::types::PATH_MAX_PER_PEER;
+use session::types::*;
 
 // Bytes p to n of `buf` are held. Each turn is a call; one that did not stop for want of room is followed by a read.
 fn main() {
@@ -24,14 +24,14 @@ fn main() {
     let path = [word; ROWS];
     let mut settings = [0u64; 4];
     let mut rec = [path; PATH_MAX_PER_PEER];
-    let mut mark = pathrun::session::begin(&mut settings, &mut rec);
+    let mut mark = portions::calls::begin(&mut settings, &mut rec);
     let mut p: usize = 0;
     let mut n: usize = 0;
     // What ends must be seen to end: 2^64 - 1 turns are more than any input has.
     let mut turns: u64 = u64::MAX;
     while 0 < turns {
         turns = turns - 1;
-        let r = feed::call(&mut settings, &mut rec, mark, buf, p, n, out);
+        let r = portions::feed::call(&mut settings, &mut rec, mark, buf, p, n, out);
         let wrote = r.wrote;
         let next = r.mark;
         let phase = next.phase;
@@ -40,11 +40,11 @@ fn main() {
         if !io::write_all(STDOUT_FILENO, &out[0..wrote]) {
             break;
         }
-        if feed::is_over(phase) {
+        if portions::feed::is_over(phase) {
             return;
         }
         if !r.full {
-            let held = feed::shift(buf, p, n);
+            let held = portions::feed::shift(buf, p, n);
             let got = libc::read(STDIN_FILENO, &mut buf[held..]);
             if got < 0 {
                 break;
@@ -52,7 +52,7 @@ fn main() {
             p = 0;
             n = std::num::wrapping_add_usize(held, io::count(got, &buf[held..]));
             if n == held {
-                let last = feed::finish(mark, buf, 0, n, out);
+                let last = portions::feed::finish(mark, buf, 0, n, out);
                 let line = &out[..];
                 if io::write_all(STDOUT_FILENO, &line[0..last]) {
                     return;

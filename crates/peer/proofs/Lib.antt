@@ -1,3 +1,6 @@
--- Laws of one event on the record, which others cite.
-pub mod EventLaws
+-- Laws that the proofs of several functions cite.
 pub mod SettingLaws
+pub mod FreshLaws
+pub mod EventLaws
+pub mod CallLaws
+pub mod StepLaws

@@ -1,10 +1,42 @@
-// The record: made, and changed by one of the fifteen events.
+// A record in lent words: made new, and changed by one of the fifteen events.
 ghost use mathlib.Core.Path.{_≡_};
-ghost use Rattle.rules.specs.Step.{allowed, recordOf, choiceOf, step};
+ghost use mathlib.Core.Bool.{cond, false};
+ghost use lib.ListN.{replicate};
+ghost use Rattle.rules.specs.Rules.{emptySlot, refusals};
+ghost use Rattle.rules.specs.Step.{allowed, freshRecord, recordOf};
+ghost use Rattle.refusals.specs.Refusals.{verdictOf};
+ghost use Rattle.cells.specs.Cells.{eventIn, settingsIn};
+ghost use Rattle.cells.specs.Code.{settingsRow};
+ghost use Rattle.rows.specs.Encode.{slotRows};
+ghost use Rattle.peer.specs.Record.{recordRows, beyondOf, Steps, Tells};
 use base::limits::DURATION_END;
 use base::types::Refusal;
+use queries::choice::chosen;
+use queries::slots;
+use refusals::refuse::*;
+use rows::places::ROWS;
 use rules::types::*;
 use select::types::PATH_MAX_PER_PEER;
+
+// Stores eight empty slots.
+fn empty(rec: &mut [[[u64; 4]; ROWS]; PATH_MAX_PER_PEER])
+    ensures { λ r. ⌜ now (rec .exit) ≡ replicate 8 (slotRows emptySlot) ⌝ }
+{
+    slots(rec);
+    let mut i: usize = 0;
+    while i < PATH_MAX_PER_PEER {
+        rows::whole::set_empty(&mut rec[i]);
+        i += 1;
+    }
+}
+
+// Stores the four words of settings.
+fn set_settings(t: &mut [u64; 4], s: Settings)
+    ensures { λ r. ⌜ now (t .exit) ≡ settingsRow s ⌝ }
+{
+    let w = labels::marks::settings_row(s);
+    *t = w;
+}
 
 // Whether each setting is below 2^62.
 pub fn is_allowed(t: Settings) -> bool
@@ -14,66 +46,55 @@ pub fn is_allowed(t: Settings) -> bool
         & (t.horizon < DURATION_END)
 }
 
-// A record of eight empty slots; with a setting of 2^62 or more the answer is 6, and none is made.
-pub fn new(t: Settings) -> Stepped
-    ensures { λ r. ⌜ r ≡ recordOf t ⌝ }
+// Makes a record of eight empty slots in the lent words; with a setting of 2^62 or more the answer is 6, and nothing is
+// written.
+pub fn new(t: &mut [u64; 4], rec: &mut [[[u64; 4]; ROWS]; PATH_MAX_PER_PEER], s: Settings) -> Reply
+    ensures { λ r. ⌜ (r ≡ recordOf s .reply)
+        × (now (t .exit) ≡ cond (allowed s) (settingsRow s) (now (t .entry)))
+        × (now (rec .exit) ≡ cond (allowed s) (recordRows (freshRecord s)) (now (rec .entry))) ⌝ }
 {
-    let empty = turns::kinds::empty_slot();
-    let slots = [empty; PATH_MAX_PER_PEER];
-    let next = Record {
-        settings: t,
-        slots: slots,
-    };
-    if is_allowed(t) {
-        return Stepped {
-            next: next,
-            reply: Reply::Nothing,
-        };
+    if is_allowed(s) {
+        set_settings(t, s);
+        empty(rec);
+        return Reply::Nothing;
     }
-    Stepped {
-        next: next,
-        reply: Reply::Refused(Refusal::Duration),
+    Reply::Refused(Refusal::Duration)
+}
+
+// The refusal of an event whose slot is none.
+fn beyond(t: &[u64; 4], e: Event) -> Reply
+    ensures { λ r. ⌜ r ≡ beyondOf (verdictOf (refusals (settingsIn (now (t .entry))) false e)) ⌝ }
+{
+    let s = labels::marks::settings_in(*t);
+    let v = first_refusal(s, false, e);
+    match v {
+        Verdict::Refused(why) => Reply::Refused(why),
+        Verdict::Pass => Reply::Refused(Refusal::Slot),
     }
 }
 
-// Choose: it leaves the record.
-pub fn choose(rec: Record, e: Event) -> Stepped
-    ensures { λ r. ⌜ r ≡ choiceOf rec e ⌝ }
+// One event: choose, or the work on its slot.
+pub fn event(t: &[u64; 4], rec: &mut [[[u64; 4]; ROWS]; PATH_MAX_PER_PEER], e: Event) -> Reply
+    ensures { λ r. ⌜ Steps (now (t .entry)) (now (rec .entry)) (now (rec .exit)) r e ⌝ }
 {
-    let slots = rec.slots;
-    let reply = choosing::chosen(slots, e.span);
-    Stepped {
-        next: rec,
-        reply: reply,
-    }
-}
-
-// One event: choose, or the work on its slot; with a slot above 7 only the answer counts, and the record stays.
-pub fn event(rec: Record, e: Event) -> Stepped
-    ensures { λ r. ⌜ r ≡ step rec e ⌝ }
-{
+    slots(rec);
     if e.kind == 15 {
-        return choose(rec, e);
+        return chosen(rec, e.span);
     }
-    let settings = rec.settings;
     if 7 < e.slot {
-        let empty = turns::kinds::empty_slot();
-        let u = turns::slot::on_slot(settings, empty, e);
-        let refused = u.reply;
-        return Stepped {
-            next: rec,
-            reply: refused,
-        };
+        return beyond(t, e);
     }
     let i = e.slot as usize;
-    let s = rec.slots[i];
-    let t = turns::slot::on_slot(settings, s, e);
-    let slot = t.slot;
-    let reply = t.reply;
-    let mut after = rec;
-    after.slots[i] = slot;
-    Stepped {
-        next: after,
-        reply: reply,
-    }
+    turns::on_rows(t, &mut rec[i], e)
+}
+
+// One event by its words; the answer is one word: the refusal number times 2^32, and the value. A struct would be handed
+// over field by field.
+pub fn tell(t: &[u64; 4], rec: &mut [[[u64; 4]; ROWS]; PATH_MAX_PER_PEER], w: &[u64; 4]) -> u64
+    ensures { λ r. ⌜ Tells (now (t .entry)) (now (rec .entry)) (now (rec .exit)) r
+        (eventIn (now (w .entry))) ⌝ }
+{
+    slots(rec);
+    let e = labels::events::event_in(*w);
+    refusals::reply::word_of(event(t, rec, e))
 }

@@ -12,10 +12,10 @@ use lib.Ieee.{Float}
 use lib.ListN.{length, take, drop, replicate, length-drop}
 use lib.Seq.{take-all}
 use Rattle.octets.specs.Octets.{readAt}
-use Rattle.fields.specs.Fields.{floatOf}
+use Rattle.total.specs.Patterns.{floatOf}
 use Rattle.script.specs.Run.{scriptNumber, scriptOut}
-use Rattle.entries.specs.Choice.{chooseReply, bestReply, bestOut}
-use Rattle.entries.specs.declared.Reply.{Reply}
+use Rattle.c_choice.specs.Choice.{chooseReply, bestReply, bestOut}
+use Rattle.c_reply.specs.declared.Reply.{Reply}
 use Rattle.replay.specs.Replay.{alike, isReply, scriptAgrees, chooseAgrees, bestAgrees}
 
 no-true : false ≡ true → ⊥

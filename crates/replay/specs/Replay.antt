@@ -6,10 +6,10 @@ use mathlib.Core.Bool.{Bool, true, false, cond, _&&_}
 use lib.Dec.{eqb}
 use lib.ListN.{length, take, drop, replicate}
 use Rattle.octets.specs.Octets.{readAt}
-use Rattle.fields.specs.Fields.{floatOf}
+use Rattle.total.specs.Patterns.{floatOf}
 use Rattle.script.specs.Run.{scriptNumber, scriptOut}
-use Rattle.entries.specs.Choice.{chooseReply, bestReply, bestOut, heldFrom, waitsFrom}
-use Rattle.entries.specs.declared.Reply.{Reply}
+use Rattle.c_choice.specs.Choice.{chooseReply, bestReply, bestOut, heldFrom, waitsFrom}
+use Rattle.c_reply.specs.declared.Reply.{Reply}
 
 -- the same bytes
 abbrev pub alike : List ℕ → List ℕ → Bool

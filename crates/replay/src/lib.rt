@@ -1,9 +1,9 @@
 // Records of a fixed list of the Rust's answers: a record begins with its inputs, and ends with the answers that the
-// unchanged Rust gave to them. It agrees where the C functions give the same.
+// unchanged Rust gave to them. It agrees where what the C functions call gives the same.
 ghost use mathlib.Core.Path.{_≡_};
 ghost use mathlib.Core.Bool.{_&&_};
 ghost use Rattle.replay.specs.Replay.{isReply, scriptAgrees, chooseAgrees, bestAgrees, pairAgrees, countedOf};
-use entries::Reply;
+use c_reply::Reply;
 
 // Whether a reply is this number and this value.
 fn replies(reply: Reply, number: u64, value: u64) -> bool
@@ -20,7 +20,7 @@ pub fn script_agrees(bytes: &[u8]) -> bool
         return false;
     }
     let mut out = [0u8; 4872];
-    let number = entries::hess_script(&bytes[0..3072], &mut out);
+    let number = script::run::run_script(&bytes[0..3072], &mut out);
     let same = check::same(&out, &bytes[3072..]);
     (number == 0) & same
 }
@@ -32,8 +32,8 @@ fn choose_agrees(bytes: &[u8]) -> bool
     if bytes.len() != 816 {
         return false;
     }
-    let margin = fields::float_of(octets::get(bytes, 768, 8));
-    let chosen = entries::choice::hess_choose(&bytes[0..768], margin);
+    let margin = total::float_of(octets::get(bytes, 768, 8));
+    let chosen = c_choice::choose(&bytes[0..768], margin);
     replies(
         chosen,
         octets::get(bytes, 776, 8),
@@ -50,7 +50,7 @@ fn best_agrees(bytes: &[u8]) -> bool
         return false;
     }
     let mut out = [0u8; 16];
-    let number = entries::choice::hess_best(&bytes[0..768], &mut out);
+    let number = c_choice::best(&bytes[0..768], &mut out);
     let same = check::same(&out, &bytes[800..]);
     (number == octets::get(bytes, 792, 8)) & same
 }
@@ -62,9 +62,9 @@ pub fn pair_agrees(bytes: &[u8]) -> bool
     if bytes.len() != 232 {
         return false;
     }
-    let margin = fields::float_of(octets::get(bytes, 192, 8));
-    let held = entries::choice::hess_held(&bytes[0..192], margin);
-    let waits = entries::choice::hess_waits(&bytes[0..192], margin);
+    let margin = total::float_of(octets::get(bytes, 192, 8));
+    let held = c_choice::held(&bytes[0..192], margin);
+    let waits = c_choice::waits(&bytes[0..192], margin);
     let first = replies(held, octets::get(bytes, 200, 8), octets::get(bytes, 208, 8));
     let second = replies(
         waits,

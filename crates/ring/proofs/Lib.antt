@@ -1,4 +1,3 @@
 -- Laws that the proofs of several functions cite.
-pub mod LapseLaws
 pub mod SweepLaws
 pub mod ClosedLaws

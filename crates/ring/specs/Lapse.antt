@@ -11,7 +11,7 @@ use Rattle.ring.specs.declared.types.Sent.{Sent}
 use Rattle.ring.specs.declared.types.Ids.{Ids}
 use Rattle.base.specs.declared.types.MaybeTime.{MaybeTime}
 use Rattle.base.specs.declared.types.MaybeTime.the-variants.{None, Some}
-use Rattle.ring.specs.declared.lapse.Scanned.{Scanned}
+use Rattle.ring.specs.declared.types.Scanned.{Scanned}
 
 -- due < now, or due = now unless overdue
 abbrev pub passedAt : ℕ → Bool → ℕ → Bool

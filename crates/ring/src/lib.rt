@@ -1,5 +1,3 @@
-// The ring of waiting probes, the late list, the identifiers and the lapse.
-pub mod ids;
-pub mod lapse;
+// The ring of waiting probes and the late list; what they and a path's identifiers are made of.
 pub mod ring;
 pub mod types;

@@ -1,5 +1,6 @@
 // The places of the ring and of the late list.
 ghost use mathlib.Core.Path.{_≡_};
+ghost use Rattle.ring.specs.Ids.{countsOf};
 ghost use Rattle.ring.specs.Ring.{maxWaiting, firstFree, fineOf, allCount, noSent, isProbe, found, packed, takenOut, remembered, swept, outstandingOf, earliestDue};
 use crate::types::LATE;
 use crate::types::RING;
@@ -22,12 +23,22 @@ pub fn first_free(ring: [Sent; RING]) -> usize
     i
 }
 
+// Whether the mark is not after the identifier; with no mark every identifier counts.
+pub fn counts(mark: MaybeId, id: u32) -> bool
+    ensures { λ r. ⌜ r ≡ countsOf mark id ⌝ }
+{
+    match mark {
+        MaybeId::None => true,
+        MaybeId::Some(m) => !base::serial::after(m, id),
+    }
+}
+
 // Free, or its lapse counts.
 pub fn fine(s: Sent, since: MaybeId) -> bool
     ensures { λ r. ⌜ r ≡ fineOf since s ⌝ }
 {
     if s.used {
-        crate::ids::counts(since, s.probe_id)
+        counts(since, s.probe_id)
     } else {
         true
     }

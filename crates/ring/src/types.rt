@@ -1,4 +1,4 @@
-// What the ring and the late list hold, and the identifiers of a path.
+// What the ring and the late list hold, the identifiers of a path, and what a scan for a lapse leaves.
 use base::types::MaybeId;
 
 // The places of the ring: probes that wait at once.
@@ -23,4 +23,10 @@ pub struct Ids {
     pub answered: MaybeId,
     pub epoch: MaybeId,
     pub since: MaybeId,
+}
+
+// A ring and a place of it, 8 for none: what a scan for the probe that lapses leaves.
+pub struct Scanned {
+    pub ring: [Sent; RING],
+    pub slot: usize,
 }

@@ -23,7 +23,8 @@ use Rattle.live.specs.Path.{withRing, withLate, withIds, withSizes, withTraffic
 use Rattle.live.specs.declared.types.Liveness.{Liveness}
 use Rattle.live.specs.declared.types.Traffic.{Traffic}
 use Rattle.rules.specs.declared.types.Slot.{Slot}
-use Rattle.image.specs.Image.{timeTag, timeOrZero, etxBits}
+use Rattle.base.specs.Missing.{timeTag, timeOrZero}
+use Rattle.total.specs.Patterns.{etxBits}
 use Rattle.cells.specs.Cells.{word, withWord, withHalf, withBit}
 use Rattle.cells.specs.Code.{lenWord, sentRow, idsRow, clocksRow, stopRow, untilWord, tripsRow, searchWord, searchRow, ladderWord}
 use Rattle.cells.specs.Code.{arrivalsRow, countWord, marksRow, sampleRows, sampleBits, spanRow}

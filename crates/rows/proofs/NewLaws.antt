@@ -12,8 +12,8 @@ use Rattle.live.specs.Path.{withEtx}
 use Rattle.rules.specs.Rules.{noLabel, emptySlot}
 use Rattle.rules.specs.declared.types.Label.{Label}
 use Rattle.rules.specs.declared.types.Slot.{Slot}
-use Rattle.image.specs.Image.{etxBits}
-use Rattle.cells.specs.Cells.{sentIn, idsIn, stopIn, sizesIn, ladderIn, trafficIn, missesIn, etxIn, spanIn, labelOf, labelIn}
+use Rattle.total.specs.Patterns.{etxBits}
+use Rattle.cells.specs.Cells.{sentIn, idsIn, stopIn, sizesIn, ladderIn, trafficIn, missesIn, etxIn, spanIn, labelFrom, labelIn}
 use Rattle.cells.specs.Cells.{usedIn}
 use Rattle.cells.specs.Code.{sentRow, idsRow, clocksRow, stopRow, untilWord, tripsRow, searchWord, searchRow, ladderWord}
 use Rattle.cells.specs.Code.{arrivalsRow, countWord, labelWord, marksRow, spanRow}
@@ -71,6 +71,6 @@ empty-says =
 -- a new slot whose label is that of zeros is empty
 pub empty-made : {l : Label} {p : List (List ℕ)} → l ≡ labelIn 0
     → (p ≡ slotRows (newSlot false l)) × (slotIn p ≡ newSlot false l) → (p ≡ slotRows emptySlot) × (slotIn p ≡ emptySlot)
-unfolding labelOf
+unfolding labelFrom
 empty-made e f =
     (f .0 ∙ ap (λ (x : Label). slotRows (newSlot false x)) e, f .1 ∙ ap (λ (x : Label). newSlot false x) e)

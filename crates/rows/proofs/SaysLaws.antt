@@ -31,7 +31,8 @@ use Rattle.rules.specs.declared.types.Label.{Label}
 use Rattle.rules.specs.declared.types.Reply.{Reply}
 use Rattle.rules.specs.declared.types.Turn.{Turn}
 use Rattle.rules.specs.Rules.{turn}
-use Rattle.image.specs.Image.{timeTag, timeOrZero, etxBits}
+use Rattle.base.specs.Missing.{timeTag, timeOrZero}
+use Rattle.total.specs.Patterns.{etxBits}
 use Rattle.cells.specs.Cells.{sentIn, idsIn, sizesIn, ladderIn, trafficIn, missesIn, etxIn, spanIn, labelIn, usedIn, word, idIn}
 use Rattle.cells.specs.Cells.{lengthIn, withWord, withHalf, withBit, withId}
 use Rattle.cells.specs.Code.{idWord, lenWord, sentRow, idsRow, stopRow, untilWord, searchWord, ladderWord, arrivalsRow, countWord}

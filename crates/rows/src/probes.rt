@@ -10,10 +10,10 @@ ghost use Rattle.rows.specs.Places.{rowCount};
 ghost use Rattle.rows.specs.View.{pathIn};
 ghost use Rattle.rows.specs.Says.{Says};
 use crate::places::*;
+use base::missing::*;
 use base::types::*;
-use cells::probes::*;
 use cells::words::*;
-use image::words::*;
+use pathwords::probes::*;
 use ring::types::*;
 use seek::types::Ladder;
 

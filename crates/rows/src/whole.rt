@@ -6,8 +6,8 @@ ghost use Rattle.rows.specs.View.{slotIn};
 ghost use Rattle.rows.specs.Encode.{slotRows, emptyRows};
 use crate::places::*;
 use crate::probes::*;
-use cells::marks::*;
-use cells::measures::etx_word;
+use labels::marks::*;
+use pathwords::measures::etx_word;
 use rules::types::*;
 use select::types::*;
 

@@ -1,6 +1,3 @@
-// The round trips of a path: the samples of its window, the spans of its horizon, and the timeout.
-pub mod rtts;
-pub mod spans;
+// The round trips of a path: what is kept of them, by the definitions of samples and spans; and the timeout.
 pub mod times;
 pub mod types;
-pub mod window;

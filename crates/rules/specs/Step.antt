@@ -9,7 +9,8 @@ use Rattle.base.specs.Limits.{isEndless}
 use Rattle.base.specs.Seq.{every}
 use Rattle.base.specs.declared.types.Refusal.the-variants as refusal
 use Rattle.rtt.specs.Spans.{baseRtt}
-use Rattle.scores.specs.Scores.{pathScore, pathSteady, scoreIn, isScored, timeIn, isTimed}
+use Rattle.base.specs.Missing.{isTimed, timeOrZero}
+use Rattle.scores.specs.Scores.{pathScore, pathSteady, scoreIn, isScored}
 use Rattle.select.specs.Media.{tierOf}
 use Rattle.select.specs.Choice.{pickedOf}
 use Rattle.select.specs.declared.types.Rival.{Rival}
@@ -53,8 +54,8 @@ rivalOf i s =
     record {
       score = scoreIn (pathScore (s .path));
       steady = scoreIn (pathSteady (s .path));
-      rtt = timeIn (s .path .rtts .rtt);
-      base = timeIn (baseRtt (s .path .rtts .spans));
+      rtt = timeOrZero (s .path .rtts .rtt);
+      base = timeOrZero (baseRtt (s .path .rtts .spans));
       index = i;
       tier = tierOf (s .label .role);
       held = s .used;

@@ -39,6 +39,15 @@ pub enum Reply {
     Refused(Refusal),
 }
 
+// The weights of an open's flag bits: its role's lower bit, pinned, fits, preferred; its medium is the lowest two.
+pub const ROLE_WEIGHT: u64 = 4;
+
+pub const PINNED_WEIGHT: u64 = 16;
+
+pub const FITS_WEIGHT: u64 = 32;
+
+pub const PREFERRED_WEIGHT: u64 = 64;
+
 // What an open says of its path: its full size and its flags.
 pub struct Label {
     pub full: u16,

@@ -1,7 +1,6 @@
 -- The score of a path (document 01, "RTT, ETX, score": "An RTT in seconds is whole seconds as a float plus the
 -- nanoseconds left over as a float divided by 10^9; a score takes that times 1000"), by the Rust's `score` and
 -- `steady`: from the first sample on.
-use Prim.Native.Nat.{ℕ}
 use mathlib.Core.Bool.{Bool, true, false}
 use lib.Ieee.{Float, binary64, ofBits}
 use Rattle.base.specs.declared.types.MaybeTime.{MaybeTime}
@@ -35,11 +34,3 @@ scoreIn (Some x) = x
 abbrev pub isScored : MaybeScore → Bool
 isScored None = false
 isScored (Some x) = true
-
-abbrev pub timeIn : MaybeTime → ℕ
-timeIn time.None = 0
-timeIn (time.Some t) = t
-
-abbrev pub isTimed : MaybeTime → Bool
-isTimed time.None = false
-isTimed (time.Some t) = true

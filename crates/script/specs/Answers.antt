@@ -10,7 +10,9 @@ use Rattle.live.specs.declared.types.Liveness.{Liveness}
 use Rattle.live.specs.declared.types.Outcome.{Outcome}
 use Rattle.live.specs.declared.types.Answer.{Answer}
 use Rattle.live.specs.declared.types.Answer.the-variants.{Done, Refused}
-use Rattle.image.specs.Image.{timeTag, timeOrZero, lenTag, lenOrZero, etxBits}
+use Rattle.base.specs.Missing.{timeTag, timeOrZero}
+use Rattle.total.specs.Patterns.{etxBits}
+use Rattle.image.specs.Image.{lenTag, lenOrZero}
 use Rattle.scores.specs.declared.MaybeScore.{MaybeScore}
 use Rattle.scores.specs.declared.MaybeScore.the-variants as score
 use Rattle.script.specs.declared.types.Called.{Called}

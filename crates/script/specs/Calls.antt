@@ -16,7 +16,7 @@ use Rattle.live.specs.Search.{seekJudgeOf}
 use Rattle.live.specs.Times.{sampleOf, foldedOf, timeoutOf, heardOf, carriedOf, shedOf, haltedOf, spentOf, owedOf}
 use Rattle.live.specs.Times.{rebasedOf}
 use Rattle.live.specs.declared.types.Liveness.{Liveness}
-use Rattle.image.specs.Image.{etxBits}
+use Rattle.total.specs.Patterns.{etxBits}
 use Rattle.scores.specs.Scores.{pathScore, pathSteady}
 use Rattle.script.specs.Answers.{answerCalled, outcome, plain, kindless, valued, timed, sized, scoreCalled, matched}
 use Rattle.script.specs.declared.types.Call.{Call}

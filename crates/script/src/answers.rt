@@ -74,7 +74,11 @@ fn tell_tagged(path: Liveness, tag: u64, x: u64) -> Called
 pub fn tell_time(path: Liveness, x: MaybeTime) -> Called
     ensures { λ r. ⌜ r ≡ timed path x ⌝ }
 {
-    tell_tagged(path, image::words::time_tag(x), image::words::time_value(x))
+    tell_tagged(
+        path,
+        base::missing::time_tag(x),
+        base::missing::time_value(x),
+    )
 }
 
 // A length, if there is one.
@@ -90,7 +94,7 @@ pub fn tell_score(path: Liveness, x: MaybeScore) -> Called
 {
     match x {
         MaybeScore::None => tell_tagged(path, 0, 0),
-        MaybeScore::Some(s) => tell_tagged(path, 1, image::words::etx_bits(s)),
+        MaybeScore::Some(s) => tell_tagged(path, 1, total::etx_bits(s)),
     }
 }
 

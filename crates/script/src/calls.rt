@@ -148,7 +148,7 @@ fn score_call(path: Liveness, c: Call) -> Called
         38 => tell_score(path, scores::steady(path)),
         39 => tell(path, path.misses() as u64),
         40 => tell_time(path, path.rtt()),
-        41 => tell(path, image::words::etx_bits(path.etx())),
+        41 => tell(path, total::etx_bits(path.etx())),
         _ => tell_len(path, path.mtu()),
     }
 }

@@ -1,5 +1,3 @@
-// Which sizes a path carries: the ladder of a probing path, and the upward search of a live one.
-pub mod ladder;
-pub mod search;
+// Which sizes a path carries: what is kept of the ladder and of the upward search, and the search's rules on sizes alone.
 pub mod sizing;
 pub mod types;

@@ -1,11 +1,6 @@
--- What the proofs of the functions share, and the laws of the choice.
-mod PlaceLaws
-mod MapLaws
-mod ScanLaws
+-- What the proofs of the choice's code share, and the laws of the choice.
+pub mod MapLaws
 pub mod OrderLaws
-mod RankLaws
-mod PickLaws
-mod LeadLaws
 pub mod ChoiceLaws
 pub mod PickedLaws
 pub mod SlimLaws

@@ -1,5 +1,5 @@
--- The orders of rivals (specs/Rivals.antt) and of bids (specs/Passes.antt) are strict: of two at most one comes before
--- the other, and not coming before goes along. Of two rivals with different indices one comes before the other.
+-- The orders of rivals (specs/Rivals.antt) are strict: of two at most one comes before the other, and not coming before
+-- goes along. Of two rivals with different indices one comes before the other.
 -- Assumes nothing.
 use Prim.Native.Nat.{ℕ}
 use mathlib.Core.Path.{_≡_, refl, ap}
@@ -14,9 +14,7 @@ use Rattle.total.specs.Values.{totalOf}
 use Rattle.total.proofs.StrictLaws.{total-strict}
 use Rattle.select.specs.Media.{speedOf}
 use Rattle.select.specs.Rivals.{byTier, byScore, byMedium, tripOf, byTrip}
-use Rattle.select.specs.Passes.{byBidScore, byBidMedium}
 use Rattle.select.specs.declared.types.Rival.{Rival}
-use Rattle.select.specs.declared.passes.Bid.{Bid}
 
 pub tier-strict : Strict byTier
 tier-strict = by-greatest (λ (r : Rival). r .tier)
@@ -36,7 +34,7 @@ module _ {A : Type 0} (score : A → Float) (index : A → ℕ) where
       }
 
   -- of what has a score and an index
-  by-score : Strict
+  pub by-score : Strict
       (λ (a b : A). not (totalOf (score b) (score a)) || (totalOf (score a) (score b) && ltb (index a) (index b)))
   by-score =
       strict-same
@@ -47,9 +45,6 @@ module _ {A : Type 0} (score : A → Float) (index : A → ℕ) where
 
 pub score-strict : Strict byScore
 score-strict = by-score (λ (r : Rival). r .score) (λ (r : Rival). r .index)
-
-pub bid-score-strict : Strict byBidScore
-bid-score-strict = by-score (λ (b : Bid). b .score) (λ (b : Bid). b .index)
 
 -- ---- by medium, score, index
 
@@ -64,16 +59,13 @@ levels m n t =
     (λ k. rw (le-ltb m n h, le-ltb n m k, eq-eqb m n (omega arith))))
 
 -- by a number, then by a strict order
-by-number : {A : Type 0} (key : A → ℕ) {next : A → A → Bool} → Strict next
+pub by-number : {A : Type 0} (key : A → ℕ) {next : A → A → Bool} → Strict next
     → Strict (λ (a b : A). ltb (key a) (key b) || (eqb (key a) (key b) && next a b))
 by-number key {next} order =
     strict-same (λ a b. levels (key a) (key b) (next a b)) (strict-then (by-least key) order)
 
 pub medium-strict : Strict byMedium
 medium-strict = by-number (λ (r : Rival). speedOf (r .medium)) score-strict
-
-pub bid-medium-strict : Strict byBidMedium
-bid-medium-strict = by-number (λ (b : Bid). b .speed) bid-score-strict
 
 -- ---- known RTT first, then RTT, index
 

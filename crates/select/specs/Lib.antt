@@ -1,9 +1,7 @@
--- What the choice among a link's paths is (document 01, "Choice", and the tail's last sentence on `Hold`).
+-- What the choice among a link's paths is (document 01, "Choice"), and what its functions answer.
 pub mod Media
 pub mod Rivals
 pub mod Choice
-pub mod Hold
 pub mod Carried
 pub mod Answers
-pub mod Passes
 pub mod Slim

@@ -1,9 +1,3 @@
-// The choice among a link's paths: rivals, their order, what holds a change, and the hold on the link's cost.
-pub mod carry;
-pub mod choice;
-mod gate;
-pub mod hold;
+// The choice among a link's paths: what rivals are, roles and media, and what the choice's functions answer.
 pub mod media;
-mod passes;
-mod scan;
 pub mod types;

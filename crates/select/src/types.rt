@@ -106,11 +106,3 @@ pub enum SizeAnswer {
     Size(u32),
     Refused(Refusal),
 }
-
-// The hold on a link's cost after a change of active path: the cost from before, the instant of the change, and the
-// reports owed.
-pub struct Hold {
-    pub cost: f64,
-    pub at: u64,
-    pub owed: u8,
-}

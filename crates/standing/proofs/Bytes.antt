@@ -17,7 +17,7 @@ use Rattle.base.specs.declared.types.MaybeLen.{MaybeLen}
 use Rattle.base.specs.declared.types.MaybeLen.the-variants as len
 use Rattle.octets.specs.Octets.{le, flat}
 use Rattle.octets.proofs.Fill.{le-length, flat-append}
-use Rattle.image.specs.Image.{etxBits}
+use Rattle.total.specs.Patterns.{etxBits}
 use Rattle.standing.specs.Standing.{wholeField, timeField, idField, lenField, fieldsOf, mapOf, partsOf, widthOf}
 use Rattle.standing.specs.Standing.{bytesIn, standingBytes}
 use Rattle.standing.specs.declared.types.Standing.{Standing}

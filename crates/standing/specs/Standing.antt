@@ -19,7 +19,7 @@ use Rattle.octets.specs.Octets.{le, flat, over}
 use Rattle.rtt.specs.Samples.{minRtt}
 use Rattle.rtt.specs.Spans.{baseRtt}
 use Rattle.live.specs.declared.types.Liveness.{Liveness}
-use Rattle.image.specs.Image.{etxBits}
+use Rattle.total.specs.Patterns.{etxBits}
 use Rattle.rules.specs.Step.{slotWith}
 use Rattle.rules.specs.declared.types.Slot.{Slot}
 use Rattle.standing.specs.declared.types.Standing.{Standing}

@@ -91,7 +91,7 @@ pub fn parts(s: Standing) -> [Field; 9]
     let e = id_field(answered);
     let f = time_field(quiet);
     let m = whole(1, map(a.on, b.on, c.on, d.on, e.on, f.on));
-    let x = whole(8, image::words::etx_bits(s.etx));
+    let x = whole(8, total::etx_bits(s.etx));
     let y = whole(4, s.misses as u64);
     [m, a, b, c, d, e, f, x, y]
 }

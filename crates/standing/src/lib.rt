@@ -3,38 +3,12 @@ ghost use mathlib.Core.Path.{_≡_};
 ghost use Prim.Native.Nat.{_≤_};
 ghost use lib.ListN.{length};
 ghost use Rattle.octets.specs.Octets.{flat, over};
-ghost use Rattle.standing.specs.Standing.{standingOf, partBytes, bytesIn, standingBytes, writtenOf, slotWritten};
-ghost use Rattle.standing.specs.Standing.{slotOut, widthOf};
+ghost use Rattle.standing.specs.Standing.{partBytes, bytesIn, standingBytes, writtenOf, widthOf};
 use base::types::*;
-use live::types::Liveness;
-use rules::types::*;
 use types::*;
 
 pub mod layout;
 pub mod types;
-
-// What is told of a path.
-pub fn standing_of(path: Liveness) -> Standing
-    ensures { λ r. ⌜ r ≡ standingOf path ⌝ }
-{
-    let ids = path.ids;
-    let last = path.rtt();
-    let least = path.min_rtt();
-    let base = path.base_rtt();
-    let quiet = path.quiet();
-    let answered = ids.answered;
-    let proven = path.mtu();
-    Standing {
-        last: last,
-        least: least,
-        base: base,
-        quiet: quiet,
-        etx: path.etx(),
-        answered: answered,
-        misses: path.misses(),
-        proven: proven,
-    }
-}
 
 // The bytes of a field: none where it is missing.
 fn width(on: bool, w: u8) -> usize
@@ -92,21 +66,4 @@ pub fn write(s: Standing, out: &mut [u8]) -> Written
         i += 1;
     }
     Written::Count(at)
-}
-
-// Writes the standing of a slot's path; 1 for a slot above 7, 2 for an empty one, then 16; a refusal writes nothing.
-pub fn standing(rec: Record, slot: u8, out: &mut [u8]) -> Written
-    ensures { λ r. ⌜ (r ≡ slotWritten (rec .slots) slot (length (now (out .entry))))
-        × (now (out .exit) ≡ slotOut (rec .slots) slot (now (out .entry))) ⌝ }
-{
-    if 7 < slot {
-        return Written::Refused(Refusal::Slot);
-    }
-    let slots = rec.slots;
-    let s = slots[slot as usize];
-    if s.used {
-        let path = s.path;
-        return write(standing_of(path), out);
-    }
-    Written::Refused(Refusal::Empty)
 }

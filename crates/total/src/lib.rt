@@ -1,9 +1,10 @@
-// Orders on f64: totalOrder on bit patterns and on values, clamp and maximum.
+// Orders on f64: totalOrder on bit patterns and on values, clamp and maximum; a float and its pattern.
 ghost use mathlib.Core.Path.{_≡_};
 ghost use mathlib.Core.Bool.{cond};
 ghost use lib.Ieee.{binary64, lt};
 ghost use Rattle.total.specs.Total.{totalAt, keyAt};
 ghost use Rattle.total.specs.Values.{totalOf, clampOf, maxOf};
+ghost use Rattle.total.specs.Patterns.{floatOf, etxBits};
 
 // Where a pattern stands in totalOrder: a positive one counts up from 2^63, a negative one down from below it.
 pub fn order_key(b: u64) -> u64
@@ -81,4 +82,25 @@ pub fn max(x: f64, y: f64) -> f64
         return y;
     }
     if x < y { y } else { x }
+}
+
+// The float of a pattern; every NaN's pattern gives the one NaN.
+pub fn float_of(bits: u64) -> f64
+    ensures { λ r. ⌜ r ≡ floatOf bits ⌝ }
+{
+    if bits % 9223372036854775808 > 9218868437227405312 {
+        0.0 / 0.0
+    } else {
+        f64::from_bits(bits)
+    }
+}
+
+// The pattern of the ETX: every NaN is the quiet one with no payload.
+pub fn etx_bits(x: f64) -> u64
+    ensures { λ r. ⌜ r ≡ etxBits x ⌝ }
+{
+    if x != x {
+        return 0x7ff8_0000_0000_0000;
+    }
+    f64::to_bits(x)
 }

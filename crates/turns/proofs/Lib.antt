@@ -1,5 +1,4 @@
 -- Laws that the proofs of several functions cite.
 pub mod WorkLaws
 pub mod SlotLaws
-pub mod RefuseLaws
-pub mod ReplyLaws
+pub mod TurnLaws

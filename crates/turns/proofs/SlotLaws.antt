@@ -16,10 +16,13 @@ use Rattle.rules.specs.declared.types.Event.{Event}
 use Rattle.rules.specs.declared.types.Slot.{Slot}
 use Rattle.rules.specs.declared.types.Turn.{Turn}
 use Rattle.rules.specs.declared.types.Reply.the-variants as reply
-use Rattle.turns.proofs.RefuseLaws.{pass-refuses}
-use Rattle.turns.specs.Turns.{verdictOf, openedAs, workBy}
-use Rattle.turns.specs.declared.refuse.Verdict.{Verdict}
-use Rattle.turns.specs.declared.refuse.Verdict.the-variants.{Pass, Refused}
+use Rattle.refusals.proofs.RefuseLaws.{pass-refuses}
+use Rattle.refusals.specs.Refusals.{verdictOf}
+use Rattle.refusals.specs.declared.refuse.Verdict.{Verdict}
+use Rattle.refusals.specs.declared.refuse.Verdict.the-variants.{Pass, Refused}
+use Rattle.cells.specs.Cells.{labelFrom}
+use Rattle.rows.proofs.NewLaws.{newSlot}
+use Rattle.turns.specs.Work.{workBy}
 
 -- a turn by the verdict
 byVerdict : Verdict → Slot → Turn → Turn
@@ -60,8 +63,8 @@ module _ (t : Settings) (s : Slot) (e : Event) where
   slot-refused a b q = q ∙ sym (slot-by (refusals t (s .used) e) s _ ∙ rw (sym a ∙ b))
 
   pub slot-open : {r : Slot} {v : Verdict} → v ≡ verdictOf (refusals t (s .used) e) → v ≡ Pass → e .kind ≡ 1
-      → r ≡ openedAs e (e .len % 65536) → record { slot = r; reply = reply.Nothing } ≡ onSlot t s e
-  unfolding onSlot byVerdict
+      → r ≡ newSlot true (labelFrom (e .len) (e .flags)) → record { slot = r; reply = reply.Nothing } ≡ onSlot t s e
+  unfolding onSlot byVerdict labelFrom
   slot-open a b k q =
       let m : e .len ≤ 65535 = open-len t (s .used) e k (sym a ∙ b) in
       let z : e .len % 65536 ≡ e .len = omega arith in

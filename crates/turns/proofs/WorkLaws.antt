@@ -16,8 +16,8 @@ use Rattle.rules.specs.declared.types.Event.{Event}
 use Rattle.rules.specs.declared.types.Slot.{Slot}
 use Rattle.rules.specs.declared.types.Turn.{Turn}
 use Rattle.rules.specs.declared.types.Reply.the-variants as reply
-use Rattle.works.specs.Works.{wholePoll}
-use Rattle.turns.specs.Turns.{workBy}
+use Rattle.probe_events.specs.Poll.{wholePoll}
+use Rattle.turns.specs.Work.{workBy}
 
 module _ (t : Settings) (s : Slot) (e : Event) (r : Turn) where
   -- what is equal to x is the work of kind k

@@ -1,2 +1,2 @@
--- One event on one slot: the first refusal, and the parts of the work.
-pub mod Turns
+-- One event on a slot's rows.
+pub mod Work

@@ -2,7 +2,8 @@
 -- Assumes nothing.
 use mathlib.Core.Path.{ap, _∙_}
 use Prim.Native.Nat.{ℕ, _/_}
-use Rattle.fields.specs.Fields.{floatOf, bitOf}
+use Rattle.total.specs.Patterns.{floatOf}
+use Rattle.fields.specs.Fields.{bitOf}
 use Rattle.select.specs.Media.{mediumOf}
 use Rattle.fields.proofs.FieldLaws.{rival-made}
 use borrow.Author.Needs.{needs}

@@ -3,9 +3,10 @@
 use borrow.Author.Needs.{needs}
 use mathlib.Core.Path.{_≡_, refl, ap}
 use lib.ListN.{length, length-map}
-use mathlib.Core.List.{[], _∷_}
+use mathlib.Core.List.{[], _∷_, _++_}
 use Prim.Native.Nat.{ℕ}
-use Rattle.image.specs.Image.{imageWords, imageOf}
+use Rattle.total.specs.Patterns.{etxBits}
+use Rattle.image.specs.Image.{rttsWords, frontWords, imageWords, imageOf}
 use Rattle.image.proofs.Lengths.{rtts-length, front-length, image-length, image-bytes}
 use Rattle.image.proofs.PartLaws.{refused, none-yet, part, written}
 use Rattle.image.proofs.write_image.Statement.{statement}
@@ -81,9 +82,12 @@ returns-2 c =
     let y : length (p .late) ≡ 4 = simp length-map at (a .good .1 .0 .1 .1 .1 .1 .0 .1 .0 .1) in
     let m : length (p .rtts .samples) ≡ 32 = simp length-map at (a .good .1 .0 .1 .1 .0 .1 .1 .0 .1 .0 .1) in
     let n : length (p .rtts .spans) ≡ 8 = simp length-map at (a .good .1 .0 .1 .1 .0 .1 .1 .1 .0 .1 .0 .1) in
-    let f₁ = part _ _ h (none-yet _) refl (front-length p x y) tt (e .write-front .ensures .1) in
-    let f₂ = part _ _ h f₁ refl (rtts-length (p .rtts) m n) tt (d .write-rtts .ensures .1) in
-    let k = written _ (part _ _ h f₂ (ap (λ (z : ℕ). z ∷ []) (g .etx-bits .ensures)) refl tt (c .before .before .put-words .ensures .1)) in
+    let w₁ = frontWords p in
+    let w₂ = rttsWords (p .rtts) in
+    let w₃ = etxBits (p .etx) ∷ [] in
+    let f₁ = part [] w₁ h (none-yet _) refl (front-length p x y) tt (e .write-front .ensures .1) in
+    let f₂ = part w₁ w₂ h f₁ refl (rtts-length (p .rtts) m n) tt (d .write-rtts .ensures .1) in
+    let k = written (w₁ ++ w₂ ++ w₃) (part (w₁ ++ w₂) w₃ h f₂ (ap (λ (z : ℕ). z ∷ []) (g .etx-bits .ensures)) refl tt (c .before .before .put-words .ensures .1)) in
     (k .0, (k .1, image-bytes p x y m n))
 
 pub write-image-spec : {M : Type 1} → statement M

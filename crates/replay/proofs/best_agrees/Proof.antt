@@ -12,20 +12,20 @@ returns : tie.Need-returns
 unfolding bestAgrees
 returns c = rw (ne-eqb _ _ (c .if1 .taken))
 
-sub-hess-best : tie.Need-sub-hess-best
-sub-hess-best c = search needs
+sub-best : tie.Need-sub-best
+sub-best c = search needs
 
-part-hess-best-start : tie.Need-part-hess-best-start
-part-hess-best-start c = search needs
+part-best-start : tie.Need-part-best-start
+part-best-start c = search needs
 
-part-hess-best-end : tie.Need-part-hess-best-end
-part-hess-best-end c = search needs
+part-best-end : tie.Need-part-best-end
+part-best-end c = search needs
 
-slice-aggregate-hess-best : tie.Need-slice-aggregate-hess-best
-slice-aggregate-hess-best c = search needs
+slice-aggregate-best : tie.Need-slice-aggregate-best
+slice-aggregate-best c = search needs
 
-hess-best-requires : tie.Need-hess-best-requires
-hess-best-requires c κs = search needs
+best-requires : tie.Need-best-requires
+best-requires c κs = search needs
 
 slice-aggregate-same : tie.Need-slice-aggregate-same
 slice-aggregate-same c = search needs
@@ -46,18 +46,18 @@ get-requires : tie.Need-get-requires
 get-requires c κs = search needs
 
 returns-2 : tie.Need-returns-2
-returns-2 c = best-done _ (c .before .before .before .before .before .before .before .before .if1 .left) (c .before .before .before .before .before .hess-best .ensures .0) (c .get .ensures .0) (c .before .before .before .before .before .hess-best .ensures .1) (tail-from (now (c .before .before .before .before .before .before .before .before .before .before .args .bytes)) 800) (c .before .same .ensures)
+returns-2 c = best-done _ (c .before .before .before .before .before .before .before .before .if1 .left) (c .before .before .before .before .before .best .ensures .0) (c .get .ensures .0) (c .before .before .before .before .before .best .ensures .1) (tail-from (now (c .before .before .before .before .before .before .before .before .before .before .args .bytes)) 800) (c .before .same .ensures)
 
 pub best-agrees-spec : {M : Type 1} → statement M
 best-agrees-spec =
     tie.close
     (tie.spec
     returns
-    sub-hess-best
-    part-hess-best-start
-    part-hess-best-end
-    slice-aggregate-hess-best
-    hess-best-requires
+    sub-best
+    part-best-start
+    part-best-end
+    slice-aggregate-best
+    best-requires
     slice-aggregate-same
     sub-same
     part-same-start

@@ -17,17 +17,17 @@ get-requires c κs = search needs
 float-of-requires : tie.Need-float-of-requires
 float-of-requires c κs = search needs
 
-sub-hess-choose : tie.Need-sub-hess-choose
-sub-hess-choose c = search needs
+sub-choose : tie.Need-sub-choose
+sub-choose c = search needs
 
-part-hess-choose-start : tie.Need-part-hess-choose-start
-part-hess-choose-start c = search needs
+part-choose-start : tie.Need-part-choose-start
+part-choose-start c = search needs
 
-part-hess-choose-end : tie.Need-part-hess-choose-end
-part-hess-choose-end c = search needs
+part-choose-end : tie.Need-part-choose-end
+part-choose-end c = search needs
 
-hess-choose-requires : tie.Need-hess-choose-requires
-hess-choose-requires c κs = search needs
+choose-requires : tie.Need-choose-requires
+choose-requires c κs = search needs
 
 get-requires-2 : tie.Need-get-requires-2
 get-requires-2 c κs = search needs
@@ -39,7 +39,7 @@ replies-requires : tie.Need-replies-requires
 replies-requires c κs = search needs
 
 returns-2 : tie.Need-returns-2
-returns-2 c = choose-done _ (c .before .before .before .before .before .before .before .if1 .left) (c .before .before .before .before .before .before .get .ensures .0) (c .before .before .before .before .before .float-of .ensures) (c .before .before .before .hess-choose .ensures) (c .before .before .get2 .ensures .0) (c .before .get3 .ensures .0) (c .replies .ensures)
+returns-2 c = choose-done _ (c .before .before .before .before .before .before .before .if1 .left) (c .before .before .before .before .before .before .get .ensures .0) (c .before .before .before .before .before .float-of .ensures) (c .before .before .before .choose .ensures) (c .before .before .get2 .ensures .0) (c .before .get3 .ensures .0) (c .replies .ensures)
 
 pub choose-agrees-spec : {M : Type 1} → statement M
 choose-agrees-spec =
@@ -48,10 +48,10 @@ choose-agrees-spec =
     returns
     get-requires
     float-of-requires
-    sub-hess-choose
-    part-hess-choose-start
-    part-hess-choose-end
-    hess-choose-requires
+    sub-choose
+    part-choose-start
+    part-choose-end
+    choose-requires
     get-requires-2
     get-requires-3
     replies-requires

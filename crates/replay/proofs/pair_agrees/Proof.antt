@@ -16,29 +16,29 @@ get-requires c κs = search needs
 float-of-requires : tie.Need-float-of-requires
 float-of-requires c κs = search needs
 
-sub-hess-held : tie.Need-sub-hess-held
-sub-hess-held c = search needs
+sub-held : tie.Need-sub-held
+sub-held c = search needs
 
-part-hess-held-start : tie.Need-part-hess-held-start
-part-hess-held-start c = search needs
+part-held-start : tie.Need-part-held-start
+part-held-start c = search needs
 
-part-hess-held-end : tie.Need-part-hess-held-end
-part-hess-held-end c = search needs
+part-held-end : tie.Need-part-held-end
+part-held-end c = search needs
 
-hess-held-requires : tie.Need-hess-held-requires
-hess-held-requires c κs = search needs
+held-requires : tie.Need-held-requires
+held-requires c κs = search needs
 
-sub-hess-waits : tie.Need-sub-hess-waits
-sub-hess-waits c = search needs
+sub-waits : tie.Need-sub-waits
+sub-waits c = search needs
 
-part-hess-waits-start : tie.Need-part-hess-waits-start
-part-hess-waits-start c = search needs
+part-waits-start : tie.Need-part-waits-start
+part-waits-start c = search needs
 
-part-hess-waits-end : tie.Need-part-hess-waits-end
-part-hess-waits-end c = search needs
+part-waits-end : tie.Need-part-waits-end
+part-waits-end c = search needs
 
-hess-waits-requires : tie.Need-hess-waits-requires
-hess-waits-requires c κs = search needs
+waits-requires : tie.Need-waits-requires
+waits-requires c κs = search needs
 
 get-requires-2 : tie.Need-get-requires-2
 get-requires-2 c κs = search needs
@@ -69,14 +69,14 @@ pair-agrees-spec =
     returns
     get-requires
     float-of-requires
-    sub-hess-held
-    part-hess-held-start
-    part-hess-held-end
-    hess-held-requires
-    sub-hess-waits
-    part-hess-waits-start
-    part-hess-waits-end
-    hess-waits-requires
+    sub-held
+    part-held-start
+    part-held-end
+    held-requires
+    sub-waits
+    part-waits-start
+    part-waits-end
+    waits-requires
     get-requires-2
     get-requires-3
     replies-requires

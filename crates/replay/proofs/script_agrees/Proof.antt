@@ -12,20 +12,20 @@ returns : tie.Need-returns
 unfolding scriptAgrees
 returns c = rw (ne-eqb _ _ (c .if1 .taken))
 
-sub-hess-script : tie.Need-sub-hess-script
-sub-hess-script c = search needs
+sub-run-script : tie.Need-sub-run-script
+sub-run-script c = search needs
 
-part-hess-script-start : tie.Need-part-hess-script-start
-part-hess-script-start c = search needs
+part-run-script-start : tie.Need-part-run-script-start
+part-run-script-start c = search needs
 
-part-hess-script-end : tie.Need-part-hess-script-end
-part-hess-script-end c = search needs
+part-run-script-end : tie.Need-part-run-script-end
+part-run-script-end c = search needs
 
-slice-aggregate-hess-script : tie.Need-slice-aggregate-hess-script
-slice-aggregate-hess-script c = search needs
+slice-aggregate-run-script : tie.Need-slice-aggregate-run-script
+slice-aggregate-run-script c = search needs
 
-hess-script-requires : tie.Need-hess-script-requires
-hess-script-requires c κs = search needs
+run-script-requires : tie.Need-run-script-requires
+run-script-requires c κs = search needs
 
 slice-aggregate-same : tie.Need-slice-aggregate-same
 slice-aggregate-same c = search needs
@@ -43,18 +43,18 @@ same-requires : tie.Need-same-requires
 same-requires c κs = search needs
 
 returns-2 : tie.Need-returns-2
-returns-2 c = script-done _ (c .before .before .before .before .before .before .before .if1 .left) (c .before .before .before .before .hess-script .ensures .0) (c .before .before .before .before .hess-script .ensures .1) (tail-from (now (c .before .before .before .before .before .before .before .before .before .args .bytes)) 3072) (c .same .ensures)
+returns-2 c = script-done _ (c .before .before .before .before .before .before .before .if1 .left) (c .before .before .before .before .run-script .ensures .0) (c .before .before .before .before .run-script .ensures .1) (tail-from (now (c .before .before .before .before .before .before .before .before .before .args .bytes)) 3072) (c .same .ensures)
 
 pub script-agrees-spec : {M : Type 1} → statement M
 script-agrees-spec =
     tie.close
     (tie.spec
     returns
-    sub-hess-script
-    part-hess-script-start
-    part-hess-script-end
-    slice-aggregate-hess-script
-    hess-script-requires
+    sub-run-script
+    part-run-script-start
+    part-run-script-end
+    slice-aggregate-run-script
+    run-script-requires
     slice-aggregate-same
     sub-same
     part-same-start

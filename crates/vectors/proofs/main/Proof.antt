@@ -1,252 +1,142 @@
--- `vectors::main` meets its contract: it never leaves its arrays.
+-- `vectors::main` is safe and ends.
 -- Assumes nothing.
-use borrow.Author.Needs.{needs}
+use Prim.Native.Nat.{_-_}
 use mathlib.Core.Path.{_≡_}
 use lib.ListN.{length}
+use borrow.Author.Needs.{needs}
 use Rattle.vectors.proofs.main.Statement.{statement}
 use Rattle.vectors.proofs.main.Tie as tie
 
 abbrev Inv-loop : tie.InvT-loop
-Inv-loop script₀ field pair scripts fields pairs equal₀ turns₀ t12 t13 t14 t15 t16 t17 t18 script equal turns =
-    length script ≡ 7944
+Inv-loop head many equal i₀ t6 t7 t8 i = (length many ≡ 5) × (length equal ≡ 5)
 
 abbrev μ-loop : tie.MeasureT-loop
-μ-loop script₀ field pair scripts fields pairs equal₀ turns₀ t12 t13 t14 t15 t16 t17 t18 script equal turns =
-    turns
+μ-loop head many equal i₀ t6 t7 t8 i = 5 - i
 
-abbrev Inv-loop2 : tie.InvT-loop2
-Inv-loop2 field₀ pair scripts fields pairs equal₀ turns₀ t14 t15 t16 t17 t18 field equal turns =
-    length field ≡ 816
-
-abbrev μ-loop2 : tie.MeasureT-loop2
-μ-loop2 field₀ pair scripts fields pairs equal₀ turns₀ t14 t15 t16 t17 t18 field equal turns =
-    turns
-
-abbrev Inv-loop3 : tie.InvT-loop3
-Inv-loop3 pair₀ scripts fields pairs equal₀ turns₀ t16 t17 t18 pair equal turns =
-    length pair ≡ 232
-
-abbrev μ-loop3 : tie.MeasureT-loop3
-μ-loop3 pair₀ scripts fields pairs equal₀ turns₀ t16 t17 t18 pair equal turns =
-    turns
-
-slice-aggregate-read-full :
-    tie.Need-slice-aggregate-read-full Inv-loop μ-loop Inv-loop2 μ-loop2 Inv-loop3 μ-loop3
+slice-aggregate-read-full : tie.Need-slice-aggregate-read-full Inv-loop μ-loop
 slice-aggregate-read-full c = search needs
 
-read-full-requires :
-    tie.Need-read-full-requires Inv-loop μ-loop Inv-loop2 μ-loop2 Inv-loop3 μ-loop3
+read-full-requires : tie.Need-read-full-requires Inv-loop μ-loop
 read-full-requires c κs = search needs
 
-slice-aggregate-get :
-    tie.Need-slice-aggregate-get Inv-loop μ-loop Inv-loop2 μ-loop2 Inv-loop3 μ-loop3
+slice-aggregate-get : tie.Need-slice-aggregate-get Inv-loop μ-loop
 slice-aggregate-get c = search needs
 
-get-requires : tie.Need-get-requires Inv-loop μ-loop Inv-loop2 μ-loop2 Inv-loop3 μ-loop3
+get-requires : tie.Need-get-requires Inv-loop μ-loop
 get-requires c κs = search needs
 
-slice-aggregate-get-2 :
-    tie.Need-slice-aggregate-get-2 Inv-loop μ-loop Inv-loop2 μ-loop2 Inv-loop3 μ-loop3
+slice-aggregate-get-2 : tie.Need-slice-aggregate-get-2 Inv-loop μ-loop
 slice-aggregate-get-2 c = search needs
 
-get-requires-2 : tie.Need-get-requires-2 Inv-loop μ-loop Inv-loop2 μ-loop2 Inv-loop3 μ-loop3
+get-requires-2 : tie.Need-get-requires-2 Inv-loop μ-loop
 get-requires-2 c κs = search needs
 
-slice-aggregate-get-3 :
-    tie.Need-slice-aggregate-get-3 Inv-loop μ-loop Inv-loop2 μ-loop2 Inv-loop3 μ-loop3
+slice-aggregate-get-3 : tie.Need-slice-aggregate-get-3 Inv-loop μ-loop
 slice-aggregate-get-3 c = search needs
 
-get-requires-3 : tie.Need-get-requires-3 Inv-loop μ-loop Inv-loop2 μ-loop2 Inv-loop3 μ-loop3
+get-requires-3 : tie.Need-get-requires-3 Inv-loop μ-loop
 get-requires-3 c κs = search needs
 
-loop-holds : tie.Need-loop-holds Inv-loop μ-loop Inv-loop2 μ-loop2 Inv-loop3 μ-loop3
+slice-aggregate-get-4 : tie.Need-slice-aggregate-get-4 Inv-loop μ-loop
+slice-aggregate-get-4 c = search needs
+
+get-requires-4 : tie.Need-get-requires-4 Inv-loop μ-loop
+get-requires-4 c κs = search needs
+
+slice-aggregate-get-5 : tie.Need-slice-aggregate-get-5 Inv-loop μ-loop
+slice-aggregate-get-5 c = search needs
+
+get-requires-5 : tie.Need-get-requires-5 Inv-loop μ-loop
+get-requires-5 c κs = search needs
+
+array-read-scripts : tie.Need-array-read-scripts Inv-loop μ-loop
+array-read-scripts c = search needs
+
+scripts-requires : tie.Need-scripts-requires Inv-loop μ-loop
+scripts-requires c κs = search needs
+
+array-read-fields : tie.Need-array-read-fields Inv-loop μ-loop
+array-read-fields c = search needs
+
+fields-requires : tie.Need-fields-requires Inv-loop μ-loop
+fields-requires c κs = search needs
+
+array-read-pairs : tie.Need-array-read-pairs Inv-loop μ-loop
+array-read-pairs c = search needs
+
+pairs-requires : tie.Need-pairs-requires Inv-loop μ-loop
+pairs-requires c κs = search needs
+
+array-read-cases : tie.Need-array-read-cases Inv-loop μ-loop
+array-read-cases c = search needs
+
+cases-requires : tie.Need-cases-requires Inv-loop μ-loop
+cases-requires c κs = search needs
+
+array-read-cases-2 : tie.Need-array-read-cases-2 Inv-loop μ-loop
+array-read-cases-2 c = search needs
+
+cases-requires-2 : tie.Need-cases-requires-2 Inv-loop μ-loop
+cases-requires-2 c κs = search needs
+
+loop-holds : tie.Need-loop-holds Inv-loop μ-loop
 loop-holds c = search needs
 
-slice-aggregate-read-full-2 :
-    tie.Need-slice-aggregate-read-full-2 Inv-loop μ-loop Inv-loop2 μ-loop2 Inv-loop3 μ-loop3
-slice-aggregate-read-full-2 c = search needs
+mul-print-decimal : tie.Need-mul-print-decimal Inv-loop μ-loop
+mul-print-decimal c = search needs
 
-read-full-requires-2 :
-    tie.Need-read-full-requires-2 Inv-loop μ-loop Inv-loop2 μ-loop2 Inv-loop3 μ-loop3
-read-full-requires-2 c κs = search needs
+array-read-print-decimal : tie.Need-array-read-print-decimal Inv-loop μ-loop
+array-read-print-decimal c = search needs
 
-slice-aggregate-script-agrees :
-    tie.Need-slice-aggregate-script-agrees Inv-loop μ-loop Inv-loop2 μ-loop2 Inv-loop3 μ-loop3
-slice-aggregate-script-agrees c = search needs
-
-script-agrees-requires :
-    tie.Need-script-agrees-requires Inv-loop μ-loop Inv-loop2 μ-loop2 Inv-loop3 μ-loop3
-script-agrees-requires c κs = search needs
-
-counted-requires : tie.Need-counted-requires Inv-loop μ-loop Inv-loop2 μ-loop2 Inv-loop3 μ-loop3
-counted-requires c κs = search needs
-
-sub-turns : tie.Need-sub-turns Inv-loop μ-loop Inv-loop2 μ-loop2 Inv-loop3 μ-loop3
-sub-turns c = search needs
-
-loop-less : tie.Need-loop-less Inv-loop μ-loop Inv-loop2 μ-loop2 Inv-loop3 μ-loop3
-loop-less c = search needs
-
-loop-again : tie.Need-loop-again Inv-loop μ-loop Inv-loop2 μ-loop2 Inv-loop3 μ-loop3
-loop-again c = search needs
-
-print-decimal-requires :
-    tie.Need-print-decimal-requires Inv-loop μ-loop Inv-loop2 μ-loop2 Inv-loop3 μ-loop3
+print-decimal-requires : tie.Need-print-decimal-requires Inv-loop μ-loop
 print-decimal-requires c κs = search needs
 
-slice-aggregate-write-all :
-    tie.Need-slice-aggregate-write-all Inv-loop μ-loop Inv-loop2 μ-loop2 Inv-loop3 μ-loop3
+slice-aggregate-write-all : tie.Need-slice-aggregate-write-all Inv-loop μ-loop
 slice-aggregate-write-all c = search needs
 
-write-all-requires :
-    tie.Need-write-all-requires Inv-loop μ-loop Inv-loop2 μ-loop2 Inv-loop3 μ-loop3
+write-all-requires : tie.Need-write-all-requires Inv-loop μ-loop
 write-all-requires c κs = search needs
 
-print-decimal-requires-2 :
-    tie.Need-print-decimal-requires-2 Inv-loop μ-loop Inv-loop2 μ-loop2 Inv-loop3 μ-loop3
+mul-print-decimal-2 : tie.Need-mul-print-decimal-2 Inv-loop μ-loop
+mul-print-decimal-2 c = search needs
+
+array-read-print-decimal-2 : tie.Need-array-read-print-decimal-2 Inv-loop μ-loop
+array-read-print-decimal-2 c = search needs
+
+print-decimal-requires-2 : tie.Need-print-decimal-requires-2 Inv-loop μ-loop
 print-decimal-requires-2 c κs = search needs
 
-slice-aggregate-write-all-2 :
-    tie.Need-slice-aggregate-write-all-2 Inv-loop μ-loop Inv-loop2 μ-loop2 Inv-loop3 μ-loop3
+slice-aggregate-write-all-2 : tie.Need-slice-aggregate-write-all-2 Inv-loop μ-loop
 slice-aggregate-write-all-2 c = search needs
 
-write-all-requires-2 :
-    tie.Need-write-all-requires-2 Inv-loop μ-loop Inv-loop2 μ-loop2 Inv-loop3 μ-loop3
+write-all-requires-2 : tie.Need-write-all-requires-2 Inv-loop μ-loop
 write-all-requires-2 c κs = search needs
 
-loop2-holds : tie.Need-loop2-holds Inv-loop μ-loop Inv-loop2 μ-loop2 Inv-loop3 μ-loop3
-loop2-holds c = search needs
+add-i : tie.Need-add-i Inv-loop μ-loop
+add-i c = search needs
 
-slice-aggregate-read-full-3 :
-    tie.Need-slice-aggregate-read-full-3 Inv-loop μ-loop Inv-loop2 μ-loop2 Inv-loop3 μ-loop3
-slice-aggregate-read-full-3 c = search needs
+loop-less : tie.Need-loop-less Inv-loop μ-loop
+loop-less c = search needs
 
-read-full-requires-3 :
-    tie.Need-read-full-requires-3 Inv-loop μ-loop Inv-loop2 μ-loop2 Inv-loop3 μ-loop3
-read-full-requires-3 c κs = search needs
+loop-again : tie.Need-loop-again Inv-loop μ-loop
+loop-again c = search needs
 
-slice-aggregate-field-agrees :
-    tie.Need-slice-aggregate-field-agrees Inv-loop μ-loop Inv-loop2 μ-loop2 Inv-loop3 μ-loop3
-slice-aggregate-field-agrees c = search needs
+slice-aggregate-read-full-2 : tie.Need-slice-aggregate-read-full-2 Inv-loop μ-loop
+slice-aggregate-read-full-2 c = search needs
 
-field-agrees-requires :
-    tie.Need-field-agrees-requires Inv-loop μ-loop Inv-loop2 μ-loop2 Inv-loop3 μ-loop3
-field-agrees-requires c κs = search needs
+read-full-requires-2 : tie.Need-read-full-requires-2 Inv-loop μ-loop
+read-full-requires-2 c κs = search needs
 
-counted-requires-2 :
-    tie.Need-counted-requires-2 Inv-loop μ-loop Inv-loop2 μ-loop2 Inv-loop3 μ-loop3
-counted-requires-2 c κs = search needs
-
-sub-turns-2 : tie.Need-sub-turns-2 Inv-loop μ-loop Inv-loop2 μ-loop2 Inv-loop3 μ-loop3
-sub-turns-2 c = search needs
-
-loop2-less : tie.Need-loop2-less Inv-loop μ-loop Inv-loop2 μ-loop2 Inv-loop3 μ-loop3
-loop2-less c = search needs
-
-loop2-again : tie.Need-loop2-again Inv-loop μ-loop Inv-loop2 μ-loop2 Inv-loop3 μ-loop3
-loop2-again c = search needs
-
-print-decimal-requires-3 :
-    tie.Need-print-decimal-requires-3 Inv-loop μ-loop Inv-loop2 μ-loop2 Inv-loop3 μ-loop3
+print-decimal-requires-3 : tie.Need-print-decimal-requires-3 Inv-loop μ-loop
 print-decimal-requires-3 c κs = search needs
 
-slice-aggregate-write-all-3 :
-    tie.Need-slice-aggregate-write-all-3 Inv-loop μ-loop Inv-loop2 μ-loop2 Inv-loop3 μ-loop3
+slice-aggregate-write-all-3 : tie.Need-slice-aggregate-write-all-3 Inv-loop μ-loop
 slice-aggregate-write-all-3 c = search needs
 
-write-all-requires-3 :
-    tie.Need-write-all-requires-3 Inv-loop μ-loop Inv-loop2 μ-loop2 Inv-loop3 μ-loop3
+write-all-requires-3 : tie.Need-write-all-requires-3 Inv-loop μ-loop
 write-all-requires-3 c κs = search needs
 
-print-decimal-requires-4 :
-    tie.Need-print-decimal-requires-4 Inv-loop μ-loop Inv-loop2 μ-loop2 Inv-loop3 μ-loop3
-print-decimal-requires-4 c κs = search needs
-
-slice-aggregate-write-all-4 :
-    tie.Need-slice-aggregate-write-all-4 Inv-loop μ-loop Inv-loop2 μ-loop2 Inv-loop3 μ-loop3
-slice-aggregate-write-all-4 c = search needs
-
-write-all-requires-4 :
-    tie.Need-write-all-requires-4 Inv-loop μ-loop Inv-loop2 μ-loop2 Inv-loop3 μ-loop3
-write-all-requires-4 c κs = search needs
-
-loop3-holds : tie.Need-loop3-holds Inv-loop μ-loop Inv-loop2 μ-loop2 Inv-loop3 μ-loop3
-loop3-holds c = search needs
-
-slice-aggregate-read-full-4 :
-    tie.Need-slice-aggregate-read-full-4 Inv-loop μ-loop Inv-loop2 μ-loop2 Inv-loop3 μ-loop3
-slice-aggregate-read-full-4 c = search needs
-
-read-full-requires-4 :
-    tie.Need-read-full-requires-4 Inv-loop μ-loop Inv-loop2 μ-loop2 Inv-loop3 μ-loop3
-read-full-requires-4 c κs = search needs
-
-slice-aggregate-pair-agrees :
-    tie.Need-slice-aggregate-pair-agrees Inv-loop μ-loop Inv-loop2 μ-loop2 Inv-loop3 μ-loop3
-slice-aggregate-pair-agrees c = search needs
-
-pair-agrees-requires :
-    tie.Need-pair-agrees-requires Inv-loop μ-loop Inv-loop2 μ-loop2 Inv-loop3 μ-loop3
-pair-agrees-requires c κs = search needs
-
-counted-requires-3 :
-    tie.Need-counted-requires-3 Inv-loop μ-loop Inv-loop2 μ-loop2 Inv-loop3 μ-loop3
-counted-requires-3 c κs = search needs
-
-sub-turns-3 : tie.Need-sub-turns-3 Inv-loop μ-loop Inv-loop2 μ-loop2 Inv-loop3 μ-loop3
-sub-turns-3 c = search needs
-
-loop3-less : tie.Need-loop3-less Inv-loop μ-loop Inv-loop2 μ-loop2 Inv-loop3 μ-loop3
-loop3-less c = search needs
-
-loop3-again : tie.Need-loop3-again Inv-loop μ-loop Inv-loop2 μ-loop2 Inv-loop3 μ-loop3
-loop3-again c = search needs
-
-print-decimal-requires-5 :
-    tie.Need-print-decimal-requires-5 Inv-loop μ-loop Inv-loop2 μ-loop2 Inv-loop3 μ-loop3
-print-decimal-requires-5 c κs = search needs
-
-slice-aggregate-write-all-5 :
-    tie.Need-slice-aggregate-write-all-5 Inv-loop μ-loop Inv-loop2 μ-loop2 Inv-loop3 μ-loop3
-slice-aggregate-write-all-5 c = search needs
-
-write-all-requires-5 :
-    tie.Need-write-all-requires-5 Inv-loop μ-loop Inv-loop2 μ-loop2 Inv-loop3 μ-loop3
-write-all-requires-5 c κs = search needs
-
-print-decimal-requires-6 :
-    tie.Need-print-decimal-requires-6 Inv-loop μ-loop Inv-loop2 μ-loop2 Inv-loop3 μ-loop3
-print-decimal-requires-6 c κs = search needs
-
-slice-aggregate-write-all-6 :
-    tie.Need-slice-aggregate-write-all-6 Inv-loop μ-loop Inv-loop2 μ-loop2 Inv-loop3 μ-loop3
-slice-aggregate-write-all-6 c = search needs
-
-write-all-requires-6 :
-    tie.Need-write-all-requires-6 Inv-loop μ-loop Inv-loop2 μ-loop2 Inv-loop3 μ-loop3
-write-all-requires-6 c κs = search needs
-
-slice-aggregate-read-full-5 :
-    tie.Need-slice-aggregate-read-full-5 Inv-loop μ-loop Inv-loop2 μ-loop2 Inv-loop3 μ-loop3
-slice-aggregate-read-full-5 c = search needs
-
-read-full-requires-5 :
-    tie.Need-read-full-requires-5 Inv-loop μ-loop Inv-loop2 μ-loop2 Inv-loop3 μ-loop3
-read-full-requires-5 c κs = search needs
-
-print-decimal-requires-7 :
-    tie.Need-print-decimal-requires-7 Inv-loop μ-loop Inv-loop2 μ-loop2 Inv-loop3 μ-loop3
-print-decimal-requires-7 c κs = search needs
-
-slice-aggregate-write-all-7 :
-    tie.Need-slice-aggregate-write-all-7 Inv-loop μ-loop Inv-loop2 μ-loop2 Inv-loop3 μ-loop3
-slice-aggregate-write-all-7 c = search needs
-
-write-all-requires-7 :
-    tie.Need-write-all-requires-7 Inv-loop μ-loop Inv-loop2 μ-loop2 Inv-loop3 μ-loop3
-write-all-requires-7 c κs = search needs
-
-returns : tie.Need-returns Inv-loop μ-loop Inv-loop2 μ-loop2 Inv-loop3 μ-loop3
+returns : tie.Need-returns Inv-loop μ-loop
 returns c = search needs
 
 pub main-spec : {M : Type 1} → statement M
@@ -255,10 +145,6 @@ main-spec =
     (tie.spec
     Inv-loop
     μ-loop
-    Inv-loop2
-    μ-loop2
-    Inv-loop3
-    μ-loop3
     slice-aggregate-read-full
     read-full-requires
     slice-aggregate-get
@@ -267,54 +153,37 @@ main-spec =
     get-requires-2
     slice-aggregate-get-3
     get-requires-3
+    slice-aggregate-get-4
+    get-requires-4
+    slice-aggregate-get-5
+    get-requires-5
+    array-read-scripts
+    scripts-requires
+    array-read-fields
+    fields-requires
+    array-read-pairs
+    pairs-requires
+    array-read-cases
+    cases-requires
+    array-read-cases-2
+    cases-requires-2
     loop-holds
-    slice-aggregate-read-full-2
-    read-full-requires-2
-    slice-aggregate-script-agrees
-    script-agrees-requires
-    counted-requires
-    sub-turns
-    loop-less
-    loop-again
+    mul-print-decimal
+    array-read-print-decimal
     print-decimal-requires
     slice-aggregate-write-all
     write-all-requires
+    mul-print-decimal-2
+    array-read-print-decimal-2
     print-decimal-requires-2
     slice-aggregate-write-all-2
     write-all-requires-2
-    loop2-holds
-    slice-aggregate-read-full-3
-    read-full-requires-3
-    slice-aggregate-field-agrees
-    field-agrees-requires
-    counted-requires-2
-    sub-turns-2
-    loop2-less
-    loop2-again
+    add-i
+    loop-less
+    loop-again
+    slice-aggregate-read-full-2
+    read-full-requires-2
     print-decimal-requires-3
     slice-aggregate-write-all-3
     write-all-requires-3
-    print-decimal-requires-4
-    slice-aggregate-write-all-4
-    write-all-requires-4
-    loop3-holds
-    slice-aggregate-read-full-4
-    read-full-requires-4
-    slice-aggregate-pair-agrees
-    pair-agrees-requires
-    counted-requires-3
-    sub-turns-3
-    loop3-less
-    loop3-again
-    print-decimal-requires-5
-    slice-aggregate-write-all-5
-    write-all-requires-5
-    print-decimal-requires-6
-    slice-aggregate-write-all-6
-    write-all-requires-6
-    slice-aggregate-read-full-5
-    read-full-requires-5
-    print-decimal-requires-7
-    slice-aggregate-write-all-7
-    write-all-requires-7
     returns)

@@ -3,7 +3,7 @@
 use borrow.Author.Needs.{needs}
 use borrow.Author.Tests.{eq-eqb, ne-eqb}
 use mathlib.Core.Path.{sym, _∙_}
-use Rattle.pathrun.proofs.StepLaws.{allowed-by, fresh-by}
+use Rattle.session.proofs.StepLaws.{allowed-by, fresh-by}
 use Rattle.replay.proofs.ReplayLaws.{tail-from}
 use Rattle.caselist.proofs.ListLaws.{list-cut, list-refused, list-told}
 use Rattle.caselist.proofs.lists.list_agrees.Statement.{statement}

@@ -1,23 +1,23 @@
 -- `eventrun::passes::scan` meets its contract.
 -- Assumes nothing.
-use borrow.Author.Needs.{needs}
 use Prim.Native.Nat.{_-_, _<_, _^_}
 use native.Mathlib.Omega.{arith}
 use mathlib.Core.Path.{sym, _∙_}
 use lib.ListN.{length}
 use denote.Ref.{now}
 use Rattle.eventrun.proofs.ScanLaws.{Scanning, scanning-start, scanning-end, scanning-over, scanning-refused, scanning-next, next-after}
+use borrow.Author.Needs.{needs}
 use Rattle.eventrun.proofs.passes.scan.Statement.{statement}
 use Rattle.eventrun.proofs.passes.scan.Tie as tie
 
 abbrev Inv-loop : tie.InvT-loop
-Inv-loop file cur₀ count₀ at₀ cur count at = Scanning file cur₀ cur count at
+Inv-loop t rec₀ file count₀ at₀ rec count at = Scanning file t rec₀ rec count at
 
 abbrev μ-loop : tie.MeasureT-loop
-μ-loop file cur₀ count₀ at₀ cur count at = length file - at
+μ-loop t rec₀ file count₀ at₀ rec count at = length file - at
 
 loop-holds : tie.Need-loop-holds Inv-loop μ-loop
-loop-holds c = scanning-start _ _
+loop-holds c = scanning-start _ _ _
 
 record-at-requires : tie.Need-record-at-requires Inv-loop μ-loop
 record-at-requires c κs = search needs
@@ -37,19 +37,22 @@ returns-2 c = scanning-refused (c .before .before .before .before .before .loop 
 enum-known-found-2 : tie.Need-enum-known-found-2 Inv-loop μ-loop
 enum-known-found-2 c = search needs
 
-event-requires : tie.Need-event-requires Inv-loop μ-loop
-event-requires c κs = search needs
+event-row-requires : tie.Need-event-row-requires Inv-loop μ-loop
+event-row-requires c κs = search needs
+
+tell-requires : tie.Need-tell-requires Inv-loop μ-loop
+tell-requires c κs = search needs
 
 add-count : tie.Need-add-count Inv-loop μ-loop
 add-count c =
-    let h : length (now (c .before .before .before .before .before .before .before .before .before .args .file)) < 2 ^ 64 = search needs in
-    omega (arith, h, c .before .before .before .before .before .before .before .loop .inv .few, c .before .before .before .before .before .before .loop-test .taken)
+    let h : length (now (c .before .before .before .before .before .before .before .before .before .before .before .args .file)) < 2 ^ 64 = search needs in
+    omega (arith, h, c .before .before .before .before .before .before .before .before .before .loop .inv .few, c .before .before .before .before .before .before .before .before .loop-test .taken)
 
 loop-less : tie.Need-loop-less Inv-loop μ-loop
-loop-less c = omega (arith, c .before .before .before .before .before .before .loop-test .taken, next-after _ _ (sym (c .before .before .before .before .before .record-at .ensures) ∙ c .before .before .before .found2 .given .1) .0)
+loop-less c = omega (arith, c .before .before .before .before .before .before .before .before .loop-test .taken, next-after _ _ (sym (c .before .before .before .before .before .before .before .record-at .ensures) ∙ c .before .before .before .before .before .found2 .given .1) .0)
 
 loop-again : tie.Need-loop-again Inv-loop μ-loop
-loop-again c = scanning-next (c .before .before .before .before .before .before .before .loop .inv) (c .before .before .before .before .before .record-at .ensures) (c .before .before .before .found2 .given .1) (c .before .event .ensures)
+loop-again c = scanning-next (c .before .before .before .before .before .before .before .before .before .loop .inv) (c .tell .result) (c .before .before .before .before .before .before .before .record-at .ensures) (c .before .before .before .before .before .found2 .given .1) (c .before .before .before .event-row .ensures .1) (c .tell .ensures)
 
 returns-3 : tie.Need-returns-3 Inv-loop μ-loop
 returns-3 c = scanning-over (c .before .loop .inv) (c .loop-test .left)
@@ -67,7 +70,8 @@ scan-spec =
     enum-known-found
     returns-2
     enum-known-found-2
-    event-requires
+    event-row-requires
+    tell-requires
     add-count
     loop-less
     loop-again

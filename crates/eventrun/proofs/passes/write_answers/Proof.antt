@@ -1,22 +1,22 @@
 -- `eventrun::passes::write_answers` meets its contract.
 -- Assumes nothing.
-use borrow.Author.Needs.{needs}
 use Prim.Native.Nat.{_-_}
 use native.Mathlib.Omega.{arith}
 use lib.ListN.{length}
 use Rattle.octets.proofs.Fill.{filled-length}
 use Rattle.eventrun.proofs.AnswerLaws.{Answering, answering-start, answering-inside, answering-end, answering-refused, answering-full, answering-next}
+use borrow.Author.Needs.{needs}
 use Rattle.eventrun.proofs.passes.write_answers.Statement.{statement}
 use Rattle.eventrun.proofs.passes.write_answers.Tie as tie
 
 abbrev Inv-loop : tie.InvT-loop
-Inv-loop file out₀ cur₀ from₀ at₀ out cur from at = Answering file cur₀ out₀ out cur from at
+Inv-loop t rec₀ file out₀ from₀ at₀ rec out from at = Answering file t rec₀ out₀ out rec from at
 
 abbrev μ-loop : tie.MeasureT-loop
-μ-loop file out₀ cur₀ from₀ at₀ out cur from at = length out - at
+μ-loop t rec₀ file out₀ from₀ at₀ rec out from at = length out - at
 
 loop-holds : tie.Need-loop-holds Inv-loop μ-loop
-loop-holds c = answering-start _ _ _ (search needs)
+loop-holds c = answering-start _ _ _ _ (search needs)
 
 sub-loop : tie.Need-sub-loop Inv-loop μ-loop
 sub-loop c = omega (arith, answering-inside (c .loop .inv))
@@ -45,23 +45,20 @@ returns-2 c = answering-refused (c .before .before .before .before .before .loop
 enum-known-found-2 : tie.Need-enum-known-found-2 Inv-loop μ-loop
 enum-known-found-2 c = search needs
 
-event-requires : tie.Need-event-requires Inv-loop μ-loop
-event-requires c κs = search needs
+event-row-requires : tie.Need-event-row-requires Inv-loop μ-loop
+event-row-requires c κs = search needs
 
-number-of-requires : tie.Need-number-of-requires Inv-loop μ-loop
-number-of-requires c κs = search needs
-
-value-of-requires : tie.Need-value-of-requires Inv-loop μ-loop
-value-of-requires c κs = search needs
+tell-requires : tie.Need-tell-requires Inv-loop μ-loop
+tell-requires c κs = search needs
 
 sub-put-words : tie.Need-sub-put-words Inv-loop μ-loop
-sub-put-words c = omega (arith, answering-inside (c .before .before .before .before .before .before .before .before .loop .inv))
+sub-put-words c = omega (arith, answering-inside (c .before .before .before .before .before .before .before .before .before .loop .inv))
 
 part-put-words-start : tie.Need-part-put-words-start Inv-loop μ-loop
-part-put-words-start c = omega (arith, answering-inside (c .before .before .before .before .before .before .before .before .loop .inv))
+part-put-words-start c = omega (arith, answering-inside (c .before .before .before .before .before .before .before .before .before .loop .inv))
 
 part-put-words-end : tie.Need-part-put-words-end Inv-loop μ-loop
-part-put-words-end c = omega (arith, answering-inside (c .before .before .before .before .before .before .before .before .loop .inv))
+part-put-words-end c = omega (arith, answering-inside (c .before .before .before .before .before .before .before .before .before .loop .inv))
 
 slice-aggregate-put-words : tie.Need-slice-aggregate-put-words Inv-loop μ-loop
 slice-aggregate-put-words c = search needs
@@ -76,7 +73,7 @@ loop-less : tie.Need-loop-less Inv-loop μ-loop
 loop-less c = search needs
 
 loop-again : tie.Need-loop-again Inv-loop μ-loop
-loop-again c = answering-next (c .before .before .before .before .before .before .before .before .before .before .before .before .before .before .loop .inv) (c .before .before .before .before .before .before .before .before .before .before .before .before .before .loop-test .taken) (c .before .before .before .before .before .before .before .before .before .before .before .before .record-at .ensures) (c .before .before .before .before .before .before .before .before .before .before .found2 .given .1) (c .before .before .before .before .before .before .before .before .event .ensures) (c .before .before .before .before .before .before .before .number-of .ensures) (c .before .before .before .before .before .before .value-of .ensures) (c .before .before .before .put-words .ensures .1)
+loop-again c = answering-next (c .before .before .before .before .before .before .before .before .before .before .before .before .before .before .loop .inv) (c .before .before .before .before .before .before .before .before .before .before .before .before .before .loop-test .taken) (c .before .before .before .before .before .tell .result) (c .before .before .before .before .before .before .before .before .before .before .before .before .record-at .ensures) (c .before .before .before .before .before .before .before .before .before .before .found2 .given .1) (c .before .before .before .before .before .before .before .before .event-row .ensures .1) (c .before .before .before .before .before .tell .ensures) (c .before .before .put-words .ensures .1)
 
 same-length-3 : tie.Need-same-length-3 Inv-loop μ-loop
 same-length-3 c = filled-length (c .before .loop .inv .filled)
@@ -100,9 +97,8 @@ write-answers-spec =
     same-length-2
     returns-2
     enum-known-found-2
-    event-requires
-    number-of-requires
-    value-of-requires
+    event-row-requires
+    tell-requires
     sub-put-words
     part-put-words-start
     part-put-words-end

@@ -1,27 +1,34 @@
 -- `eventrun::slots::slots_size` meets its contract.
 -- Assumes nothing.
-use borrow.Author.Needs.{needs}
 use Prim.Native.Nat.{_-_}
+use mathlib.Core.Path.{_∙_}
+use mathlib.Core.List.{[], map}
 use native.Mathlib.Omega.{arith}
+use lib.ListN.{length-map}
 use Rattle.standing.proofs.Laying.{Adding}
-use Rattle.eventrun.proofs.SlotLaws.{numbered, bytesAt, sizes-start, sizes-next, sizes-end}
+use Rattle.rows.specs.View.{slotIn}
+use Rattle.eventrun.proofs.SlotLaws.{numbered, bytesAt, sizes-start, sizes-next, sizes-end, size-at}
+use borrow.Author.Needs.{needs}
 use Rattle.eventrun.proofs.slots.slots_size.Statement.{statement}
 use Rattle.eventrun.proofs.slots.slots_size.Tie as tie
 
 abbrev Inv-loop : tie.InvT-loop
-Inv-loop slots n₀ i₀ n i = Adding bytesAt 52 (numbered 0 slots) 8 n i
+Inv-loop rec n₀ i₀ n i = Adding bytesAt 52 (numbered 0 (map slotIn rec)) 8 n i
 
 abbrev μ-loop : tie.MeasureT-loop
-μ-loop slots n₀ i₀ n i = 8 - i
+μ-loop rec n₀ i₀ n i = 8 - i
+
+slots-requires : tie.Need-slots-requires Inv-loop μ-loop
+slots-requires c κs = search needs
 
 loop-holds : tie.Need-loop-holds Inv-loop μ-loop
-loop-holds c = sizes-start _ (search needs)
+loop-holds c = sizes-start (map slotIn (c .before .args .rec .now)) (length-map (c .before .args .rec .now) slotIn ∙ c .slots .ensures .1)
 
-mul-s : tie.Need-mul-s Inv-loop μ-loop
-mul-s c = search needs
+mul-slot-size : tie.Need-mul-slot-size Inv-loop μ-loop
+mul-slot-size c = search needs
 
-array-copy-out-s : tie.Need-array-copy-out-s Inv-loop μ-loop
-array-copy-out-s c = search needs
+index-1-slot-size : tie.Need-index-1-slot-size Inv-loop μ-loop
+index-1-slot-size c = search needs
 
 slot-size-requires : tie.Need-slot-size-requires Inv-loop μ-loop
 slot-size-requires c κs = search needs
@@ -36,10 +43,10 @@ loop-less : tie.Need-loop-less Inv-loop μ-loop
 loop-less c = search needs
 
 loop-again : tie.Need-loop-again Inv-loop μ-loop
-loop-again c = sizes-next _ (search needs) (c .before .before .before .loop .inv) (c .before .before .loop-test .taken) _ (c .slot-size .ensures)
+loop-again c = sizes-next (map slotIn (c .before .before .before .before .before .args .rec .now)) (length-map (c .before .before .before .before .before .args .rec .now) slotIn ∙ c .before .before .before .before .slots .ensures .1) (c .before .before .before .loop .inv) (c .before .before .loop-test .taken) (slotIn []) (size-at (c .before .before .before .before .before .args .rec .now) (c .before .before .before .loop .i) (c .slot-size .ensures .0), c .slot-size .ensures .1)
 
 returns : tie.Need-returns Inv-loop μ-loop
-returns c = sizes-end _ (search needs) (c .before .loop .inv) (c .loop-test .left)
+returns c = sizes-end (map slotIn (c .before .before .before .args .rec .now)) (length-map (c .before .before .before .args .rec .now) slotIn ∙ c .before .before .slots .ensures .1) (c .before .loop .inv) (c .loop-test .left)
 
 pub slots-size-spec : {M : Type 1} → statement M
 slots-size-spec =
@@ -47,9 +54,10 @@ slots-size-spec =
     (tie.spec
     Inv-loop
     μ-loop
+    slots-requires
     loop-holds
-    mul-s
-    array-copy-out-s
+    mul-slot-size
+    index-1-slot-size
     slot-size-requires
     add-n
     add-i

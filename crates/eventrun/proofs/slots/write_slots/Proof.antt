@@ -1,22 +1,27 @@
 -- `eventrun::slots::write_slots` meets its contract.
 -- Assumes nothing.
-use borrow.Author.Needs.{needs}
 use Prim.Native.Nat.{_-_, _<_, _^_}
+use mathlib.Core.Path.{_∙_}
+use mathlib.Core.List.{[], map}
 use native.Mathlib.Omega.{arith}
-use mathlib.Core.List.{[]}
-use lib.ListN.{length}
+use lib.ListN.{length, length-map}
 use denote.Ref.{now}
 use Rattle.octets.proofs.Fill.{filled-length}
 use Rattle.standing.proofs.Laying.{Laying, laying-inside}
-use Rattle.eventrun.proofs.SlotLaws.{numbered, bytesAt, told-start, told-room, told-next, told-end, told-not}
+use Rattle.rows.specs.View.{slotIn}
+use Rattle.eventrun.proofs.SlotLaws.{numbered, bytesAt, size-at, bytes-at, told-start, told-room, told-next, told-end, told-not}
+use borrow.Author.Needs.{needs}
 use Rattle.eventrun.proofs.slots.write_slots.Statement.{statement}
 use Rattle.eventrun.proofs.slots.write_slots.Tie as tie
 
 abbrev Inv-loop : tie.InvT-loop
-Inv-loop out₀ slots at₀ i₀ out at i = Laying bytesAt (numbered 0 slots) 8 out₀ [] out at i
+Inv-loop rec out₀ at₀ i₀ out at i = Laying bytesAt (numbered 0 (map slotIn rec)) 8 out₀ [] out at i
 
 abbrev μ-loop : tie.MeasureT-loop
-μ-loop out₀ slots at₀ i₀ out at i = 8 - i
+μ-loop rec out₀ at₀ i₀ out at i = 8 - i
+
+slots-requires : tie.Need-slots-requires Inv-loop μ-loop
+slots-requires c κs = search needs
 
 slots-size-requires : tie.Need-slots-size-requires Inv-loop μ-loop
 slots-size-requires c κs = search needs
@@ -25,13 +30,13 @@ returns : tie.Need-returns Inv-loop μ-loop
 returns c = told-not _ (c .before .slots-size .ensures .0) (c .if1 .taken)
 
 loop-holds : tie.Need-loop-holds Inv-loop μ-loop
-loop-holds c = told-start _ (search needs) (c .before .slots-size .ensures .0) (c .if1 .left)
+loop-holds c = told-start (map slotIn (c .before .before .before .before .args .rec .now)) (length-map (c .before .before .before .before .args .rec .now) slotIn ∙ c .before .before .slots .ensures .1) (c .before .slots-size .ensures .0) (c .if1 .left)
 
-mul-s : tie.Need-mul-s Inv-loop μ-loop
-mul-s c = search needs
+mul-write-slot : tie.Need-mul-write-slot Inv-loop μ-loop
+mul-write-slot c = search needs
 
-array-copy-out-s : tie.Need-array-copy-out-s Inv-loop μ-loop
-array-copy-out-s c = search needs
+index-1-write-slot : tie.Need-index-1-write-slot Inv-loop μ-loop
+index-1-write-slot c = search needs
 
 sub-write-slot : tie.Need-sub-write-slot Inv-loop μ-loop
 sub-write-slot c = omega (arith, laying-inside (c .before .before .loop .inv))
@@ -47,8 +52,8 @@ write-slot-requires c κs = search needs
 
 add-at : tie.Need-add-at Inv-loop μ-loop
 add-at c =
-    let h : length (now (c .before .before .before .before .before .before .before .before .before .before .args .out)) < 2 ^ 64 = search needs in
-    omega (arith, h, filled-length (c .before .before .before .before .before .before .loop .inv .done), told-room _ (search needs) (c .before .before .before .before .before .before .loop .inv) (c .before .before .before .before .before .loop-test .taken) _ (c .before .before .write-slot .ensures .0))
+    let h : length (now (c .before .before .before .before .before .before .before .before .before .before .before .args .out)) < 2 ^ 64 = search needs in
+    omega (arith, h, filled-length (c .before .before .before .before .before .before .loop .inv .done), told-room (map slotIn (c .before .before .before .before .before .before .before .before .before .before .before .args .rec .now)) (length-map (c .before .before .before .before .before .before .before .before .before .before .before .args .rec .now) slotIn ∙ c .before .before .before .before .before .before .before .before .before .slots .ensures .1) (c .before .before .before .before .before .before .loop .inv) (c .before .before .before .before .before .loop-test .taken) (slotIn []) (size-at (c .before .before .before .before .before .before .before .before .before .before .before .args .rec .now) (c .before .before .before .before .before .before .loop .i) (c .before .before .write-slot .ensures .0)))
 
 add-i : tie.Need-add-i Inv-loop μ-loop
 add-i c = search needs
@@ -57,13 +62,13 @@ loop-less : tie.Need-loop-less Inv-loop μ-loop
 loop-less c = search needs
 
 loop-again : tie.Need-loop-again Inv-loop μ-loop
-loop-again c = told-next _ (search needs) (c .before .before .before .before .before .before .loop .inv) (c .before .before .before .before .before .loop-test .taken) _ (c .before .before .write-slot .ensures .0) (c .before .before .write-slot .ensures .1)
+loop-again c = told-next (map slotIn (c .before .before .before .before .before .before .before .before .before .before .before .args .rec .now)) (length-map (c .before .before .before .before .before .before .before .before .before .before .before .args .rec .now) slotIn ∙ c .before .before .before .before .before .before .before .before .before .slots .ensures .1) (c .before .before .before .before .before .before .loop .inv) (c .before .before .before .before .before .loop-test .taken) (slotIn []) (size-at (c .before .before .before .before .before .before .before .before .before .before .before .args .rec .now) (c .before .before .before .before .before .before .loop .i) (c .before .before .write-slot .ensures .0)) (bytes-at (c .before .before .before .before .before .before .before .before .before .before .before .args .rec .now) (c .before .before .before .before .before .before .loop .i) _ (c .before .before .write-slot .ensures .1))
 
 same-length : tie.Need-same-length Inv-loop μ-loop
 same-length c = filled-length (c .before .loop .inv .done)
 
 returns-2 : tie.Need-returns-2 Inv-loop μ-loop
-returns-2 c = told-end _ (search needs) (c .before .loop .inv) (c .loop-test .left)
+returns-2 c = told-end (map slotIn (c .before .before .before .before .before .before .args .rec .now)) (length-map (c .before .before .before .before .before .before .args .rec .now) slotIn ∙ c .before .before .before .before .slots .ensures .1) (c .before .loop .inv) (c .loop-test .left)
 
 pub write-slots-spec : {M : Type 1} → statement M
 write-slots-spec =
@@ -71,11 +76,12 @@ write-slots-spec =
     (tie.spec
     Inv-loop
     μ-loop
+    slots-requires
     slots-size-requires
     returns
     loop-holds
-    mul-s
-    array-copy-out-s
+    mul-write-slot
+    index-1-write-slot
     sub-write-slot
     part-write-slot-start
     part-write-slot-end

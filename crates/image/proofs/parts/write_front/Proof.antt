@@ -2,8 +2,10 @@
 -- Assumes nothing.
 use borrow.Author.Needs.{needs}
 use mathlib.Core.Path.{_≡_, refl}
+use mathlib.Core.List.{[], _++_}
 use lib.ListN.{length, length-map}
-use Rattle.image.specs.Image.{frontWords}
+use Rattle.octets.specs.Octets.{flat}
+use Rattle.image.specs.Image.{sentWords, marksWords, countsWords, frontWords}
 use Rattle.image.proofs.Lengths.{sents-length, marks-length, counts-length, front-length}
 use Rattle.image.proofs.PartLaws.{refused, none-yet, part, written}
 use Rattle.image.proofs.parts.write_front.Statement.{statement}
@@ -79,10 +81,14 @@ returns-2 c =
     let p = a .args .path in
     let x : length (p .ring) ≡ 8 = simp length-map at (a .good .1 .0 .1 .1 .1 .0 .1 .0 .1) in
     let y : length (p .late) ≡ 4 = simp length-map at (a .good .1 .0 .1 .1 .1 .1 .0 .1 .0 .1) in
-    let f₁ = part _ _ h (none-yet _) refl (sents-length (p .ring) x) tt (g .write-ring .ensures .1) in
-    let f₂ = part _ _ h f₁ refl (sents-length (p .late) y) tt (e .write-late .ensures .1) in
-    let f₃ = part _ _ h f₂ refl (marks-length (p .ids) (p .silence)) tt (d .write-marks .ensures .1) in
-    written _ (part _ _ h f₃ refl (counts-length (p .misses) (p .ladder) (p .sizes) (p .traffic)) tt (c .before .before .write-counts .ensures .1))
+    let w₁ = flat sentWords (p .ring) in
+    let w₂ = flat sentWords (p .late) in
+    let w₃ = marksWords (p .ids) (p .silence) in
+    let w₄ = countsWords (p .misses) (p .ladder) (p .sizes) (p .traffic) in
+    let f₁ = part [] w₁ h (none-yet _) refl (sents-length (p .ring) x) tt (g .write-ring .ensures .1) in
+    let f₂ = part w₁ w₂ h f₁ refl (sents-length (p .late) y) tt (e .write-late .ensures .1) in
+    let f₃ = part (w₁ ++ w₂) w₃ h f₂ refl (marks-length (p .ids) (p .silence)) tt (d .write-marks .ensures .1) in
+    written (w₁ ++ w₂ ++ w₃ ++ w₄) (part (w₁ ++ w₂ ++ w₃) w₄ h f₃ refl (counts-length (p .misses) (p .ladder) (p .sizes) (p .traffic)) tt (c .before .before .write-counts .ensures .1))
 
 pub write-front-spec : {M : Type 1} → statement M
 write-front-spec =

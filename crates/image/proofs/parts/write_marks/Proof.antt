@@ -2,7 +2,8 @@
 -- Assumes nothing.
 use borrow.Author.Needs.{needs}
 use mathlib.Core.Path.{refl}
-use Rattle.image.specs.Image.{marksWords}
+use mathlib.Core.List.{[], _++_}
+use Rattle.image.specs.Image.{idsWords, timeWords, stopWords, marksWords}
 use Rattle.image.proofs.Lengths.{marks-length, stop-length}
 use Rattle.image.proofs.PartLaws.{refused, none-yet, part, written}
 use Rattle.image.proofs.parts.write_marks.Statement.{statement}
@@ -75,10 +76,13 @@ returns-2 c =
     let e = d .before .before .before .before .before in
     let g = e .before .before .before in
     let h = g .before .before .before .if1 .left in
-    let x = g .before .before .before .before .before .args .silence .stop in
-    let f₁ = part _ _ h (none-yet _) (g .before .before .ids-words .ensures) refl tt (e .put-words .ensures .1) in
-    let f₂ = part _ _ h f₁ (g .before .time-words .ensures) refl tt (d .put-words2 .ensures .1) in
-    written _ (part _ _ h f₂ (g .stop-words .ensures) (stop-length x) tt (c .before .before .put-words3 .ensures .1))
+    let a = g .before .before .before .before .before .args in
+    let x = a .silence .stop in
+    let w₁ = idsWords (a .ids) in
+    let w₂ = timeWords (a .silence .quiet) in
+    let f₁ = part [] w₁ h (none-yet _) (g .before .before .ids-words .ensures) refl tt (e .put-words .ensures .1) in
+    let f₂ = part w₁ w₂ h f₁ (g .before .time-words .ensures) refl tt (d .put-words2 .ensures .1) in
+    written (w₁ ++ w₂ ++ stopWords x) (part (w₁ ++ w₂) (stopWords x) h f₂ (g .stop-words .ensures) (stop-length x) tt (c .before .before .put-words3 .ensures .1))
 
 pub write-marks-spec : {M : Type 1} → statement M
 write-marks-spec =

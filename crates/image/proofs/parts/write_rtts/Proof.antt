@@ -3,7 +3,9 @@
 use borrow.Author.Needs.{needs}
 use mathlib.Core.Path.{_≡_, refl}
 use lib.ListN.{length, length-map}
-use Rattle.image.specs.Image.{rttsWords}
+use mathlib.Core.List.{[], _++_}
+use Rattle.octets.specs.Octets.{flat}
+use Rattle.image.specs.Image.{timeWords, sampleWords, spanWords, rttsWords}
 use Rattle.image.proofs.Lengths.{samples-length, spans-length, rtts-length}
 use Rattle.image.proofs.PartLaws.{refused, none-yet, part, written}
 use Rattle.image.proofs.parts.write_rtts.Statement.{statement}
@@ -73,9 +75,12 @@ returns-2 c =
     let r = a .args .r in
     let m : length (r .samples) ≡ 32 = simp length-map at (a .good .1 .0 .1 .1 .0 .1 .0 .1) in
     let n : length (r .spans) ≡ 8 = simp length-map at (a .good .1 .0 .1 .1 .1 .0 .1 .0 .1) in
-    let f₁ = part _ _ h (none-yet _) (g .time-words .ensures) refl tt (e .put-words .ensures .1) in
-    let f₂ = part _ _ h f₁ refl (samples-length (r .samples) m) tt (d .write-samples .ensures .1) in
-    written _ (part _ _ h f₂ refl (spans-length (r .spans) n) tt (c .before .before .write-spans .ensures .1))
+    let w₁ = timeWords (r .rtt) in
+    let w₂ = flat sampleWords (r .samples) in
+    let w₃ = flat spanWords (r .spans) in
+    let f₁ = part [] w₁ h (none-yet _) (g .time-words .ensures) refl tt (e .put-words .ensures .1) in
+    let f₂ = part w₁ w₂ h f₁ refl (samples-length (r .samples) m) tt (d .write-samples .ensures .1) in
+    written (w₁ ++ w₂ ++ w₃) (part (w₁ ++ w₂) w₃ h f₂ refl (spans-length (r .spans) n) tt (c .before .before .write-spans .ensures .1))
 
 pub write-rtts-spec : {M : Type 1} → statement M
 write-rtts-spec =

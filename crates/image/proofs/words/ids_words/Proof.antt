@@ -29,7 +29,7 @@ id-value-requires-4 : tie.Need-id-value-requires-4
 id-value-requires-4 c κs = search needs
 
 returns : tie.Need-returns
-returns c = cc
+returns c = simp (c .id-value4 .ensures, c .before .id-tag4 .ensures, c .before .before .id-value3 .ensures, c .before .before .before .id-tag3 .ensures, c .before .before .before .before .id-value2 .ensures, c .before .before .before .before .before .id-tag2 .ensures, c .before .before .before .before .before .before .id-value .ensures, c .before .before .before .before .before .before .before .id-tag .ensures)
 
 pub ids-words-spec : {M : Type 1} → statement M
 ids-words-spec =

@@ -35,7 +35,7 @@ cast-t18 : tie.Need-cast-t18
 cast-t18 c = search needs
 
 returns : tie.Need-returns
-returns c = cc
+returns c = simp (c .before .before .before .time-value .ensures, c .before .before .before .before .time-tag .ensures, c .before .before .before .before .before .len-value2 .ensures, c .before .before .before .before .before .before .len-tag2 .ensures, c .before .before .before .before .before .before .before .flag .ensures, c .before .before .before .before .before .before .before .before .len-value .ensures, c .before .before .before .before .before .before .before .before .before .len-tag .ensures)
 
 pub size-words-spec : {M : Type 1} → statement M
 size-words-spec =

@@ -23,7 +23,7 @@ time-value-requires-2 : tie.Need-time-value-requires-2
 time-value-requires-2 c κs = search needs
 
 returns : tie.Need-returns
-returns c = cc
+returns c = simp (c .time-value2 .ensures, c .before .time-tag2 .ensures, c .before .before .time-value .ensures, c .before .before .before .time-tag .ensures)
 
 pub traffic-words-spec : {M : Type 1} → statement M
 traffic-words-spec =

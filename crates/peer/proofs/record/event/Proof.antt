@@ -1,62 +1,52 @@
--- `peer::record::event` meets its contract: by choose, a slot above 7, or a slot of the record, each a law of `EventLaws`.
+-- `peer::record::event` meets its contract.
 -- Assumes nothing.
-use Rattle.peer.proofs.EventLaws.{event-choose, event-in, event-out}
 use borrow.Author.Tests.{ne-eqb}
-use lib.ListN.{length-map}
-use mathlib.Core.Path.{refl}
+use Rattle.peer.proofs.StepLaws.{steps-choose, steps-in, steps-out}
 use borrow.Author.Needs.{needs}
 use Rattle.peer.proofs.record.event.Statement.{statement}
 use Rattle.peer.proofs.record.event.Tie as tie
 
-choose-requires : tie.Need-choose-requires
-choose-requires c κs = search needs
+slots-requires : tie.Need-slots-requires
+slots-requires c κs = search needs
+
+chosen-requires : tie.Need-chosen-requires
+chosen-requires c κs = search needs
 
 returns : tie.Need-returns
-returns c = event-choose (c .before .before .before .args .t1) (c .before .before .before .args .e) (c .before .if1 .taken) (c .choose .ensures)
+returns c = steps-choose (c .before .before .before .before .before .before .args .t .now) (c .before .before .before .before .before .before .args .rec .now) (c .before .before .before .before .before .before .args .e) (c .before .before .if1 .taken) (c .chosen .ensures)
 
-empty-slot-requires : tie.Need-empty-slot-requires
-empty-slot-requires c κs = search needs
-
-on-slot-requires : tie.Need-on-slot-requires
-on-slot-requires c κs = search needs
+beyond-requires : tie.Need-beyond-requires
+beyond-requires c κs = search needs
 
 returns-2 : tie.Need-returns-2
-returns-2 c = event-out (c .before .before .before .before .before .before .before .args .t1) (c .before .before .before .before .before .before .before .args .e) (ne-eqb _ _ (c .before .before .before .before .before .if1 .left)) (simp length-map at (c .before .before .before .before .before .before .before .good .0 .1 .1 .1 .0 .1 .0 .1)) (c .before .before .if2 .taken) (c .before .empty-slot .ensures) (c .on-slot .ensures)
+returns-2 c = steps-out (c .before .before .before .before .before .before .before .args .t .now) (c .before .before .before .before .before .before .before .args .rec .now) (c .before .before .before .before .before .before .before .args .e) (c .before .before .before .before .before .slots .ensures .1) (ne-eqb _ _ (c .before .before .before .if1 .left)) (c .before .if2 .taken) (c .beyond .ensures)
 
 cast-i : tie.Need-cast-i
 cast-i c = search needs
 
-mul-s : tie.Need-mul-s
-mul-s c = search needs
+mul-on-rows : tie.Need-mul-on-rows
+mul-on-rows c = search needs
 
-element-copy-out-s : tie.Need-element-copy-out-s
-element-copy-out-s c = search needs
+index-1-on-rows : tie.Need-index-1-on-rows
+index-1-on-rows c = search needs
 
-on-slot-requires-2 : tie.Need-on-slot-requires-2
-on-slot-requires-2 c κs = search needs
-
-mul-slot : tie.Need-mul-slot
-mul-slot c = search needs
-
-element-set-from-slot : tie.Need-element-set-from-slot
-element-set-from-slot c = search needs
+on-rows-requires : tie.Need-on-rows-requires
+on-rows-requires c κs = search needs
 
 returns-3 : tie.Need-returns-3
-returns-3 c = event-in (c .before .before .before .before .before .before .before .before .before .args .t1) (c .before .before .before .before .before .before .before .before .before .args .e) _ (ne-eqb _ _ (c .before .before .before .before .before .before .before .if1 .left)) (simp length-map at (c .before .before .before .before .before .before .before .before .before .good .0 .1 .1 .1 .0 .1 .0 .1)) (c .before .before .before .before .if2 .left) refl (c .before .on-slot2 .ensures)
+returns-3 c = steps-in (c .before .before .before .before .before .before .before .before .before .args .t .now) (c .before .before .before .before .before .before .before .before .before .args .rec .now) (c .before .before .before .before .before .before .before .before .before .args .e) (c .before .before .before .before .before .before .before .slots .ensures .1) (ne-eqb _ _ (c .before .before .before .before .before .if1 .left)) (c .before .before .before .if2 .left) (c .on-rows .ensures)
 
 pub event-spec : {M : Type 1} → statement M
 event-spec =
     tie.close
     (tie.spec
-    choose-requires
+    slots-requires
+    chosen-requires
     returns
-    empty-slot-requires
-    on-slot-requires
+    beyond-requires
     returns-2
     cast-i
-    mul-s
-    element-copy-out-s
-    on-slot-requires-2
-    mul-slot
-    element-set-from-slot
+    mul-on-rows
+    index-1-on-rows
+    on-rows-requires
     returns-3)

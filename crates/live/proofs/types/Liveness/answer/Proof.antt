@@ -21,7 +21,9 @@ answered-ids-requires : tie.Need-answered-ids-requires
 answered-ids-requires c κs = search needs
 
 returns : tie.Need-returns
-returns c = answer-in-time _ _ (c .before .before .before .before .find .ensures) (c .before .before .before .if1 .taken) (c .before .take-out .ensures) (c .answered-ids .ensures)
+returns c =
+    let a = c .before .before .before .before .before .before .args in
+    answer-in-time (a .self) (a .id) (c .before .before .before .before .find .ensures) (c .before .before .before .if1 .taken) (c .before .take-out .ensures) (c .answered-ids .ensures)
 
 find-late-requires : tie.Need-find-late-requires
 find-late-requires c κs = search needs
@@ -42,13 +44,17 @@ element-set-from-free : tie.Need-element-set-from-free
 element-set-from-free c = search needs
 
 returns-2 : tie.Need-returns-2
-returns-2 c = answer-late _ _ (c .before .before .before .before .before .before .find .ensures) (c .before .before .before .before .before .if1 .left) (c .before .before .before .find-late .ensures) (c .before .before .if2 .taken) (c .none .ensures)
+returns-2 c =
+    let a = c .before .before .before .before .before .before .before .before .args in
+    answer-late (a .self) (a .id) (c .before .before .before .before .before .before .find .ensures) (c .before .before .before .before .before .if1 .left) (c .before .before .before .find-late .ensures) (c .before .before .if2 .taken) (c .none .ensures)
 
 refused-requires : tie.Need-refused-requires
 refused-requires c κs = search needs
 
 returns-3 : tie.Need-returns-3
-returns-3 c = answer-unknown _ _ (c .before .before .before .before .before .find .ensures) (c .before .before .before .before .if1 .left) (c .before .before .find-late .ensures) (c .before .if2 .left) (c .refused .ensures)
+returns-3 c =
+    let a = c .before .before .before .before .before .before .before .args in
+    answer-unknown (a .self) (a .id) (c .before .before .before .before .before .find .ensures) (c .before .before .before .before .if1 .left) (c .before .before .find-late .ensures) (c .before .if2 .left) (c .refused .ensures)
 
 pub answer-spec : {M : Type 1} → statement M
 answer-spec =

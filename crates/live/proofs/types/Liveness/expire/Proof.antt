@@ -40,7 +40,9 @@ missed-requires : tie.Need-missed-requires
 missed-requires c κs = search needs
 
 returns-3 : tie.Need-returns-3
-returns-3 c = expire-made _ _ _ _ (c .before .before .before .before .before .before .before .before .before .before .before .before .before .before .if1 .left) (c .before .before .before .before .before .before .before .before .before .before .before .scan .ensures) (c .before .before .before .before .before .before .before .before .before .if2 .left) refl (c .before .before .before .before .before .before .before .take-out .ensures) (c .before .before .before .before .before .remember .ensures) (c .before .before .before .before .counted .ensures) (c .before .before .before .padded .ensures) (c .before .missed .ensures)
+returns-3 c =
+    let a = c .before .before .before .before .before .before .before .before .before .before .before .before .before .before .before .args in
+    expire-made (a .self) (a .now) (a .overdue) (a .cap) (c .before .before .before .before .before .before .before .before .before .before .before .before .before .before .if1 .left) (c .before .before .before .before .before .before .before .before .before .before .before .scan .ensures) (c .before .before .before .before .before .before .before .before .before .if2 .left) refl (c .before .before .before .before .before .before .before .take-out .ensures) (c .before .before .before .before .before .remember .ensures) (c .before .before .before .before .counted .ensures) (c .before .before .before .padded .ensures) (c .before .missed .ensures)
 
 pub expire-spec : {M : Type 1} → statement M
 expire-spec =

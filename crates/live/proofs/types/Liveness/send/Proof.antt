@@ -9,7 +9,9 @@ refused-requires : tie.Need-refused-requires
 refused-requires c κs = search needs
 
 returns : tie.Need-returns
-returns c = send-long _ _ _ _ _ (c .before .if1 .taken) (c .refused .ensures)
+returns c =
+    let a = c .before .before .args in
+    send-long (a .self) (a .at) (a .due) (a .len) (a .draw) (c .before .if1 .taken) (c .refused .ensures)
 
 first-free-requires : tie.Need-first-free-requires
 first-free-requires c κs = search needs
@@ -18,7 +20,9 @@ refused-requires-2 : tie.Need-refused-requires-2
 refused-requires-2 c κs = search needs
 
 returns-2 : tie.Need-returns-2
-returns-2 c = send-full _ _ _ _ _ (c .before .before .before .before .if1 .left) (c .before .before .first-free .ensures) (c .before .if2 .taken) (c .refused2 .ensures)
+returns-2 c =
+    let a = c .before .before .before .before .before .args in
+    send-full (a .self) (a .at) (a .due) (a .len) (a .draw) (c .before .before .before .before .if1 .left) (c .before .before .first-free .ensures) (c .before .if2 .taken) (c .refused2 .ensures)
 
 cast-short : tie.Need-cast-short
 cast-short c = search needs
@@ -42,7 +46,9 @@ element-set-from-out : tie.Need-element-set-from-out
 element-set-from-out c = search needs
 
 returns-3 : tie.Need-returns-3
-returns-3 c = send-made _ _ _ _ _ (c .before .before .before .before .before .before .before .if1 .left) (c .before .before .before .before .before .first-free .ensures) (c .before .before .before .before .if2 .left) (c .before .before .before .drop-since .ensures) (c .before .before .taken .ensures) (c .before .next-ids .ensures) (c .quiet-from .ensures)
+returns-3 c =
+    let a = c .before .before .before .before .before .before .before .before .args in
+    send-made (a .self) (a .at) (a .due) (a .len) (a .draw) (c .before .before .before .before .before .before .before .if1 .left) (c .before .before .before .before .before .first-free .ensures) (c .before .before .before .before .if2 .left) (c .before .before .before .drop-since .ensures) (c .before .before .taken .ensures) (c .before .next-ids .ensures) (c .quiet-from .ensures)
 
 pub send-spec : {M : Type 1} → statement M
 send-spec =

@@ -1,0 +1,103 @@
+-- The best score as numbers over the front of lent bytes.
+-- Assumes nothing.
+use Prim.Native.Nat.{ℕ}
+use mathlib.Core.Path.{_≡_, refl, sym, ap, _∙_}
+use mathlib.Core.Bool.{Bool, true, false}
+use lib.Dec.{leb, eqb}
+use lib.Ieee.{isNan, ofBits, toBits}
+use mathlib.Core.List.{List, [], _∷_}
+use borrow.Author.Tests.{eq-eqb, ne-eqb}
+use lib.ListN.{length}
+use Rattle.base.specs.Refusals.{refusalNumber}
+use Rattle.base.specs.declared.types.Refusal.{Refusal}
+use Rattle.base.specs.declared.types.Refusal.the-variants.{
+  Slot,
+  Empty,
+  Held,
+  Flag,
+  Length,
+  Duration,
+  Margin,
+  Full,
+  Unknown,
+  NoSize,
+  NoPath,
+  Index,
+  Cut,
+  Map,
+  Kind,
+  Lent,
+}
+use Rattle.octets.specs.Octets.{le, wordsOf, over}
+use Rattle.octets.proofs.Fill.{flat-length, le-length}
+use Rattle.select.specs.Answers.{bestNumber}
+use Rattle.select.specs.Choice.{bestOf}
+use Rattle.select.specs.declared.types.BestAnswer.{BestAnswer}
+use Rattle.select.specs.declared.types.BestAnswer.the-variants as best
+use Rattle.fields.specs.Fields.{fieldLen, fieldOf}
+use Rattle.c_choice.specs.Choice.{bestWords, lentNumber, bestReply, bestOut}
+
+-- no refusal has the number 0
+refusal-some : (why : Refusal) → eqb (refusalNumber why) 0 ≡ false
+refusal-some Slot = refl
+refusal-some Empty = refl
+refusal-some Held = refl
+refusal-some Flag = refl
+refusal-some Length = refl
+refusal-some Duration = refl
+refusal-some Margin = refl
+refusal-some Full = refl
+refusal-some Unknown = refl
+refusal-some NoSize = refl
+refusal-some NoPath = refl
+refusal-some Index = refl
+refusal-some Cut = refl
+refusal-some Map = refl
+refusal-some Kind = refl
+refusal-some Lent = refl
+
+module _ (s l : List ℕ) where
+  pub best-cut : {n : ℕ} → (length s ≡ fieldLen → ⊥) → n ≡ refusalNumber Cut
+      → (n ≡ bestReply s (length l)) × (l ≡ bestOut s l)
+  unfolding bestReply bestOut
+  best-cut h q = let e = ne-eqb (length s) fieldLen h in (rw e q, rw e)
+
+  -- the answer a, accepted, its number n, and the bytes after it
+  pub best-done : {a : BestAnswer} {n : ℕ} {m w : List ℕ} → length s ≡ fieldLen → a ≡ bestOf (fieldOf s)
+      → bestNumber a ≡ 0
+      → n ≡ lentNumber (length l) → w ≡ bestWords a → m ≡ over (wordsOf w) l
+      → (n ≡ bestReply s (length l)) × (m ≡ bestOut s l)
+  unfolding bestReply bestOut
+  best-done {a} {n} {m} {w} h q z b c d =
+      let e = eq-eqb (length s) fieldLen h in
+      (rw (e, sym q, z) b, rw (e, sym q, z, sym c) d)
+
+  -- the answer a, refused
+  pub best-not : {a : BestAnswer} {why : Refusal} {n : ℕ} → length s ≡ fieldLen → a ≡ bestOf (fieldOf s)
+      → a ≡ best.Refused why
+      → n ≡ refusalNumber why → (n ≡ bestReply s (length l)) × (l ≡ bestOut s l)
+  unfolding bestReply bestOut
+  best-not {a} {why} {n} h q z b =
+      let e = eq-eqb (length s) fieldLen h in
+      let k : bestOf (fieldOf s) ≡ best.Refused why = sym q ∙ z in
+      (rw (e, k, refusal-some why) b, rw (e, k, refusal-some why))
+
+-- no score is two zeros
+pub zero-words : {a : BestAnswer} → a ≡ best.Unscored → (0 ∷ 0 ∷ []) ≡ bestWords a
+unfolding isNan ofBits toBits
+zero-words e = ap bestWords (sym e)
+
+-- two numbers are 16 bytes
+pub two-words : (a b : ℕ) → length (wordsOf (a ∷ b ∷ [])) ≡ 16
+two-words a b = flat-length (le 8) 8 (le-length 8) (a ∷ b ∷ [])
+
+-- whether two numbers fit says which number is given
+module _ (a b n : ℕ) {t : Bool} (e : t ≡ leb (length (wordsOf (a ∷ b ∷ []))) n) where
+  sixteen : leb 16 n ≡ t
+  sixteen = ap (λ (z : ℕ). leb z n) (sym (two-words a b)) ∙ sym e
+
+  pub lent-yes : t ≡ true → 0 ≡ lentNumber n
+  lent-yes f = let k : leb 16 n ≡ true = sixteen ∙ f in rw k
+
+  pub lent-no : t ≡ false → refusalNumber Lent ≡ lentNumber n
+  lent-no f = let k : leb 16 n ≡ false = sixteen ∙ f in rw k

@@ -1,0 +1,2 @@
+-- What the choice replies, its rivals given as bytes.
+pub mod Choice

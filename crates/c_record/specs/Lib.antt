@@ -1,0 +1,2 @@
+-- What the functions on a record reply.
+pub mod Record

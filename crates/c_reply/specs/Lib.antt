@@ -1,0 +1,2 @@
+-- What C gets and passes.
+pub mod Replies

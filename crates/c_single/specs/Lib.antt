@@ -1,0 +1,2 @@
+-- What the single functions reply.
+pub mod Single

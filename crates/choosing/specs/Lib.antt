@@ -1,2 +1,0 @@
--- The choice over a record's slots.
-pub mod Choosing

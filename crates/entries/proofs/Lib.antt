@@ -1,4 +1,0 @@
--- Laws that the proofs of several functions cite.
-mod PartLaws
-mod ChoiceLaws
-mod RecordLaws

@@ -1,0 +1,2 @@
+-- What the function on a whole file replies.
+pub mod Events

@@ -1,0 +1,2 @@
+-- What holds a change of path, and the hold on the link's cost.
+pub mod Hold

@@ -1,0 +1,2 @@
+-- Laws of the words of an event.
+pub mod EventLaws

@@ -1,0 +1,2 @@
+-- Laws of the ladder's sizes.
+pub mod RungLaws

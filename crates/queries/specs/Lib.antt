@@ -1,0 +1,2 @@
+-- What is read of a record in rows.
+pub mod Choosing

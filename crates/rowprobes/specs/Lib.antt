@@ -1,2 +1,0 @@
--- What a poll's steps leave of a slot's rows.
-pub mod Scan

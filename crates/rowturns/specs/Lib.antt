@@ -1,1 +1,0 @@
--- One event on a slot's rows.

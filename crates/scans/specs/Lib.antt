@@ -1,0 +1,2 @@
+-- What the scans of a field read and find.
+pub mod Scans

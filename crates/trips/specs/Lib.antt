@@ -1,0 +1,2 @@
+-- The least round trips in a slot's rows.
+pub mod Trips

@@ -1,2 +1,0 @@
--- The parts of the work of a kind.
-pub mod Works
