@@ -46,9 +46,9 @@ struct hess_float_reply {
  * No function keeps anything between calls, and none writes any memory but what is lent: two records may be used
  * from two threads at once; one record is used from one thread at a time.
  *
- * One call takes at most 2,785 bytes of stack, its return address among them, measured on x86-64 on full records over
- * all events (host/stack): hess_record_size 8, hess_record_new 40, hess_record_event 2,705 and 32 of arguments above
- * them, hess_record_words 2,657 (1,128 with any event but a choose), hess_record_bytes 2,785, hess_record_standing 304.
+ * One call takes at most 2,352 bytes of stack, its return address among them, measured on x86-64 on full records over
+ * all events (host/stack): hess_record_size 8, hess_record_new 40, hess_record_event 2,272 and 32 of arguments above
+ * them, hess_record_words 2,224 (1,736 with any event but a choose), hess_record_bytes 2,352, hess_record_standing 256.
  */
 struct hess_record {
     uint64_t settings[4];
@@ -193,6 +193,12 @@ struct hess_reply hess_carried(uint32_t link, bool held, uint32_t proven, bool o
  * place; 11: there is no rival.
  */
 struct hess_reply hess_choose(const uint8_t *field, size_t len, double margin);
+
+/*
+ * The same of a field that lies in memory as words: eight rivals of twelve words, the numbers of hess_choose's bytes in
+ * the same order; nothing but a pointer is handed over. There is no length, so no 13; else 6, 12 and 11 as above.
+ */
+struct hess_reply hess_choose_words(const uint64_t field[8][12], double margin);
 
 /*
  * Writes two u64: whether any of the ranked rivals has a score, and the bits of the least. Gives 0; or 13, 6, 12 as

@@ -1,21 +1,15 @@
 //! Nanoseconds a call on long scripts: ours, and the Rust's with the same decoding, answers and
-//! image. Nanoseconds a field of rivals: ours, the Rust's with the same decoding, and without it.
+//! image.
 
 use crate::calls::op;
 use crate::clib;
-#[cfg(choice)]
-use crate::random::Rng;
-#[cfg(choice)]
-use crate::rivals::{HELD, SCORED, field};
-#[cfg(choice)]
-use oracle::proto::path::choice::{FIELD, Nans, Prepared, choose_of};
 use oracle::proto::path::script::{CALL, Call, IMAGE, path_bytes, run, word};
 use std::hint::black_box;
 use std::time::Instant;
 
 /// Calls in a script, runs of which the median is taken, scripts in a run.
 const CALLS: usize = 2_000;
-const RUNS: usize = 9;
+pub const RUNS: usize = 9;
 const SCRIPTS: usize = 100;
 
 /// Print the table.
@@ -106,96 +100,7 @@ fn time(mut script: impl FnMut() -> u64) -> f64 {
     start.elapsed().as_nanos() as f64 / (SCRIPTS * CALLS) as f64
 }
 
-fn median(mut times: Vec<f64>) -> f64 {
+pub fn median(mut times: Vec<f64>) -> f64 {
     times.sort_by(f64::total_cmp);
     times[times.len() / 2]
-}
-
-/// Fields in a run, and their margin.
-#[cfg(choice)]
-const FIELDS: usize = 100_000;
-#[cfg(choice)]
-const MARGIN: f64 = 1.3;
-#[cfg(choice)]
-const SEED: u64 = 300;
-
-/// Print the table of the choice.
-#[cfg(choice)]
-pub fn fields() {
-    println!();
-    println!(
-        "| Fields | ours, ns a field | the Rust's, from bytes | ratio | the Rust's `choose` alone | ratio |"
-    );
-    println!("|---|---|---|---|---|---|");
-    for (name, least, scored) in [
-        ("1 to 8 rivals, scored or not", 1, None),
-        ("8 rivals, all scored", 8, Some(1)),
-        ("8 rivals, none scored", 8, Some(0)),
-    ] {
-        let [ours, decoded, alone] = field_times(&made_fields(least, scored));
-        println!(
-            "| {name} | {ours:.1} | {decoded:.1} | {:.1} | {alone:.1} | {:.1} |",
-            ours / decoded,
-            ours / alone
-        );
-    }
-    println!();
-    println!(
-        "{FIELDS} fields of {FIELD} bytes one after the other, seed {SEED}, margin {MARGIN}; medians of {RUNS} runs. \
-         In the time: one C call a field (ours), the reading of the rivals from bytes (ours, and the \
-         Rust's from bytes) with the tests for 13, 6 and 12, the choice, and the memory that the \
-         fields come from. The Rust's `choose` alone reads fields of {} bytes made before the \
-         clock starts, untested.",
-        Prepared::bytes()
-    );
-}
-
-/// Fields that are not refused, one after the other, with no NaN.
-#[cfg(choice)]
-fn made_fields(least: usize, scored: Option<u64>) -> Vec<u8> {
-    let mut rng = Rng::new(SEED);
-    let mut bytes = Vec::with_capacity(FIELDS * FIELD);
-    while bytes.len() < FIELDS * FIELD {
-        let mut case = field(&mut rng, false);
-        if let Some(scored) = scored {
-            let held = case.rivals.iter_mut().filter(|r| r[HELD] % 2 == 1);
-            held.for_each(|r| r[SCORED] = scored);
-        }
-        let one = case.bytes();
-        let plain = case.held() >= least && !case.has_nan(false);
-        if plain && choose_of(&one, MARGIN, Nans::Raw).0 == 0 {
-            bytes.extend(one);
-        }
-    }
-    bytes
-}
-
-/// Nanoseconds a field: ours, the Rust's from the same bytes, the Rust's from prepared fields.
-#[cfg(choice)]
-fn field_times(bytes: &[u8]) -> [f64; 3] {
-    let fields = || bytes.chunks_exact(FIELD);
-    let prepared: Vec<_> = fields()
-        .map(|f| Prepared::new(f).expect("not refused"))
-        .collect();
-    let run = |sum: &dyn Fn() -> u64| {
-        let start = Instant::now();
-        let sum = black_box(sum());
-        (start.elapsed().as_nanos() as f64 / FIELDS as f64, sum)
-    };
-    let mut times = [const { Vec::new() }; 3];
-    for _ in 0..RUNS {
-        let sides = [
-            run(&|| fields().map(|f| clib::choose(f, MARGIN).value).sum()),
-            run(&|| fields().map(|f| choose_of(f, MARGIN, Nans::One).1).sum()),
-            run(&|| {
-                let place = |f: &Prepared| f.choose(MARGIN).unwrap_or(0) as u64;
-                prepared.iter().map(place).sum()
-            }),
-        ];
-        for ((time, sum), all) in sides.into_iter().zip(&mut times) {
-            assert_eq!(sum, sides[1].1, "ours differs from the Rust's");
-            all.push(time);
-        }
-    }
-    times.map(median)
 }

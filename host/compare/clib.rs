@@ -1,6 +1,8 @@
-//! Our C functions: libhessiantalc.a, and `hess_script` of libhesstest.a. A C `bool` comes back as a byte, so that any but 0 and 1 shows.
+//! Our C functions: libhessiantalc.a, and `hess_script` and `hess_choose_rivals` of libhesstest.a. A C `bool` comes back as a byte, so that any but 0 and 1 shows.
 
 use oracle::proto::path::choice::one_nan;
+#[cfg(choice)]
+use oracle::proto::path::choice::{PLACES, WORDS};
 
 /// A refusal number, 0 if accepted, and a value.
 #[repr(C)]
@@ -57,9 +59,15 @@ pub fn script(script: &[u8], out: &mut [u8]) -> u64 {
     unsafe { hess_script(script.as_ptr(), script.len(), out.as_mut_ptr(), out.len()) }
 }
 
+/// A field in memory: the words of its eight rivals.
+#[cfg(choice)]
+pub type Field = [[u64; WORDS]; PLACES];
+
 #[cfg(choice)]
 unsafe extern "C" {
     fn hess_choose(field: *const u8, len: usize, margin: f64) -> Reply;
+    fn hess_choose_words(field: *const Field, margin: f64) -> Reply;
+    fn hess_choose_rivals(field: *const Field, margin: f64) -> Reply;
     fn hess_best(field: *const u8, len: usize, out: *mut u8, outlen: usize) -> u64;
     fn hess_held(pair: *const u8, len: usize, margin: f64) -> Reply;
     fn hess_waits(pair: *const u8, len: usize, margin: f64) -> Reply;
@@ -75,6 +83,18 @@ unsafe extern "C" {
 pub fn choose(field: &[u8], margin: f64) -> Reply {
     // The pointer is good for as many bytes as stand beside it; so below.
     unsafe { hess_choose(field.as_ptr(), field.len(), margin) }
+}
+
+/// The chosen place of a field in memory.
+#[cfg(choice)]
+pub fn choose_words(field: &Field, margin: f64) -> Reply {
+    unsafe { hess_choose_words(field, margin) }
+}
+
+/// The same, by the choice over rivals by value.
+#[cfg(choice)]
+pub fn choose_rivals(field: &Field, margin: f64) -> Reply {
+    unsafe { hess_choose_rivals(field, margin) }
 }
 
 /// The least score into the lent bytes; the refusal number.

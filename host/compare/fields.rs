@@ -4,7 +4,9 @@
 //! every NaN as the positive quiet one. On how many fields the Rust itself answers otherwise
 //! where it sees sign and payload is counted beside.
 
-use crate::clib::{self, Reply, hess_carried, hess_hold, hess_quicker, hess_score, hess_tier};
+use crate::clib::{
+    self, Field, Reply, hess_carried, hess_hold, hess_quicker, hess_score, hess_tier,
+};
 use crate::random::{LIMITS, Rng};
 use crate::rivals::{
     Case, FITS, HELD, INDEX, MARKS, MEDIUM, PINNED, PREFERRED, RTT, SCORE, SCORED, TIER, TIMED,
@@ -16,6 +18,7 @@ use oracle::proto::path::choice::{
 };
 use std::collections::BTreeMap;
 use std::fmt::Debug;
+use std::hint::black_box;
 use std::time::Instant;
 
 /// Random fields, pairs, and calls of `Hold`.
@@ -51,6 +54,13 @@ pub struct Fields {
     rng: Rng,
     start: Instant,
 }
+
+/// Ours on fields in memory, each compared on every field that `choose` is.
+type InMemory = fn(&Field, f64) -> Reply;
+const IN_MEMORY: [(&str, InMemory); 2] = [
+    ("choose_words", clib::choose_words),
+    ("choose_rivals", clib::choose_rivals),
+];
 
 /// A reference, as the Rust sees NaNs or as ours does.
 type Reference = fn(&Case, Nans) -> Pair;
@@ -173,6 +183,9 @@ impl Fields {
         }
         let (number, place) = choose(case, Nans::One);
         self.count("choose", number);
+        for (name, _) in IN_MEMORY {
+            self.count(name, number);
+        }
         if number == 0 {
             self.reasons(case, place);
         }
@@ -425,10 +438,42 @@ fn difference(ours: Reply, rust: Pair, given: &Given) -> Option<String> {
     (given.bytes != given.copy).then(|| "ours changes the rivals' bytes".to_string())
 }
 
+/// The choice from bytes, then on the same field in memory.
 fn choose_difference(case: &Case) -> Option<String> {
     let given = Given::new(&case.bytes());
     let ours = clib::choose(given.bytes(), case.margin());
-    difference(ours, choose(case, Nans::One), &given)
+    let rust = choose(case, Nans::One);
+    let from_bytes = difference(ours, rust, &given);
+    from_bytes.or_else(|| {
+        let mut all = IN_MEMORY.into_iter();
+        all.find_map(|(name, ours)| memory_difference(case, name, ours, rust))
+    })
+}
+
+/// A field at the least place that words may have, between two words; ours must leave all of them.
+#[derive(Clone, PartialEq)]
+#[repr(C, align(64))]
+struct Lent {
+    before: u64,
+    field: Field,
+    after: u64,
+}
+
+/// The choice on a field in memory.
+fn memory_difference(case: &Case, name: &str, ours: InMemory, rust: Pair) -> Option<String> {
+    let mut lent = Lent {
+        before: 1,
+        field: core::array::from_fn(|n| case.rivals[n]),
+        after: 1,
+    };
+    let copy = lent.clone();
+    let ours = ours(&lent.field, case.margin());
+    // What ours was lent to read is read anew.
+    if *black_box(&mut lent) != copy {
+        return Some(format!("{name}: ours changes the rivals' words"));
+    }
+    let ours = (ours.number, ours.value);
+    (ours != rust).then(|| format!("{name}: ours {ours:?}, the Rust's {rust:?}"))
 }
 
 /// `best` with so many bytes lent: the number, the two words, and every byte that must stand.

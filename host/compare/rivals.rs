@@ -1,7 +1,7 @@
 //! Rivals in words: from a fixed seed, made smaller, and shown.
 
 use crate::random::Rng;
-use oracle::proto::path::choice::{NAN, PLACES, RIVAL, WORDS};
+use oracle::proto::path::choice::{NAN, PLACES, RIVAL, WORDS, words};
 use std::cell::Cell;
 
 /// Runs that a case is made smaller in.
@@ -9,6 +9,11 @@ const TRIES: usize = 200_000;
 
 /// A rival in words.
 pub type Rival = [u64; WORDS];
+
+/// The rivals of a field in bytes.
+pub fn rivals_of(bytes: &[u8]) -> [Rival; PLACES] {
+    core::array::from_fn(|n| words(&bytes[RIVAL * n..]))
+}
 
 /// Where the words stand.
 pub const HELD: usize = 0;

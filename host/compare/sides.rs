@@ -1,12 +1,16 @@
-//! Ours beside the Rust: `sides compare`, `sides bench`.
+//! Ours beside the Rust: `sides compare`, `sides bench`, `sides choices`.
 
 mod aims;
 mod bench;
 mod calls;
+#[cfg(choice)]
+mod choosing;
 mod clib;
 #[cfg(choice)]
 mod fields;
 mod flavours;
+#[cfg(choice)]
+mod made;
 mod random;
 #[cfg(choice)]
 mod rivals;
@@ -23,8 +27,13 @@ pub fn main() {
         Some("bench") => {
             bench::bench();
             #[cfg(choice)]
-            bench::fields();
+            {
+                println!();
+                choosing::print();
+            }
         }
+        #[cfg(choice)]
+        Some("choices") => choosing::print(),
         _ => compare(),
     }
 }

@@ -78,7 +78,8 @@ fn role(word: u64) -> Role {
     }
 }
 
-fn words(bytes: &[u8]) -> [u64; WORDS] {
+/// The words of a rival from the bytes that begin with it.
+pub fn words(bytes: &[u8]) -> [u64; WORDS] {
     core::array::from_fn(|n| super::script::word(bytes, n))
 }
 

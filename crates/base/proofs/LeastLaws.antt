@@ -1,21 +1,17 @@
--- The least and the largest of a list (specs/Least.antt): a bound and a member; the passes that find them; and those of
--- a list whose number none exceeds.
+-- The least and the largest of a list (specs/Least.antt): a bound and a member; the passes that find them.
 -- Assumes nothing.
-use Prim.Native.Nat.{ℕ, _≤_, max}
+use Prim.Native.Nat.{ℕ, _≤_}
 use mathlib.Core.Path.{_≡_, refl, ap, sym, subst, _∙_}
-use mathlib.Core.Bool.{Bool, true, false, not}
+use mathlib.Core.Bool.{Bool, true, false}
 use mathlib.Core.List.{List, [], _∷_, _++_, map, foldl}
 use native.Mathlib.Omega.{arith}
-use borrow.Author.Tests.{lt-ltb, le-ltb, ltb-false, le-leb, lt-leb, eq-eqb, ne-eqb, not-true}
-use lib.Dec.{ltb, leb, eqb}
-use Rattle.base.specs.Seq.{every, keep}
-use Rattle.base.specs.First.{unbeaten}
+use borrow.Author.Tests.{lt-ltb, le-ltb, ltb-false}
+use Rattle.base.specs.Seq.{keep}
 use Rattle.base.specs.Least.{below, above, leastOf, largestOf}
 use Rattle.base.specs.Passes.{lowerOf, higherOf}
 use Rattle.base.specs.declared.types.MaybeTime.{MaybeTime}
 use Rattle.base.specs.declared.types.MaybeTime.the-variants.{None, Some}
 use Rattle.base.proofs.Cases.{on-order}
-use Rattle.base.proofs.KeepLaws.{keep-same-in}
 use Rattle.base.proofs.ScanLaws.{Folding, folding-end}
 use Rattle.base.proofs.FirstLaws.{Strict, First, by-least, by-greatest, first-over, pass-first, first-cases}
 
@@ -99,35 +95,3 @@ module _ {A : Type 0} {p : A → Bool} {g : A → ℕ} {l : List A} {n : ℕ} {b
 
   pub folding-largest : Folding p g higherOf None l n b i → n ≤ i → b ≡ largestOf (map g (keep p l))
   folding-largest s h = folding-end s h ∙ largest-pass (map g (keep p l))
-
--- ---- those that none exceeds are those that reach the largest
-
-max-up : (m : List ℕ) (z : ℕ) → z ≤ foldl max z m
-max-up [] z = omega arith
-max-up (x ∷ m) z = let h : max z x ≤ foldl max (max z x) m = max-up m (max z x) in omega arith
-
-module _ {A : Type 0} (key : A → ℕ) where
-  -- none of a list exceeds k exactly if the largest does not
-  under-is : (l : List A) (z k : ℕ) → z ≤ k → every (λ y. not (ltb k (key y))) l ≡ leb (foldl max z (map key l)) k
-  under-is [] z k h = sym (le-leb z k h)
-  under-is (y ∷ l) z k h =
-      on-order k (key y)
-      (λ q.
-      let u : max z (key y) ≤ foldl max (max z (key y)) (map key l) = max-up (map key l) (max z (key y)) in
-      rw (lt-ltb k (key y) q, lt-leb (foldl max (max z (key y)) (map key l)) k (omega arith)))
-      (λ q. rw (le-ltb k (key y) q) (under-is l (max z (key y)) k (omega arith)))
-
-  pub unexceeded : (l : List A)
-      → keep (unbeaten (λ x y. ltb (key y) (key x)) l) l ≡ keep (λ x. eqb (key x) (foldl max 0 (map key l))) l
-  unexceeded l =
-      let t : ℕ = foldl max 0 (map key l) in
-      keep-same-in (λ (x : A). not (ltb t (key x))) (unbeaten (λ (x y : A). ltb (key y) (key x)) l)
-      (λ (x : A). eqb (key x) t)
-      (λ x h.
-      let b : key x ≤ t = ltb-false t (key x) (not-true (ltb t (key x)) h) in
-      under-is l 0 (key x) (omega arith)
-      ∙ on-order (key x) t
-      (λ q. rw (lt-leb t (key x) q, ne-eqb (key x) t (omega arith)))
-      (λ q. rw (le-leb t (key x) q, eq-eqb (key x) t (omega arith))))
-      l
-      (under-is l 0 t (omega arith) ∙ le-leb t t (omega arith))

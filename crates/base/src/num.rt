@@ -23,13 +23,6 @@ pub fn min_u64(a: u64, b: u64) -> u64
     if a < b { a } else { b }
 }
 
-// The larger of two tiers.
-pub fn max_u8(a: u8, b: u8) -> u8
-    ensures { λ r. ⌜ r ≡ max a b ⌝ }
-{
-    if a < b { b } else { a }
-}
-
 // The larger of two instants or durations.
 pub fn max_u64(a: u64, b: u64) -> u64
     ensures { λ r. ⌜ r ≡ max a b ⌝ }

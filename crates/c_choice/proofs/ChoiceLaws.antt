@@ -1,10 +1,10 @@
--- The best score as numbers over the front of lent bytes.
+-- The best score as numbers over the front of lent bytes; the choice from bytes as that on their words.
 -- Assumes nothing.
 use Prim.Native.Nat.{ℕ}
 use mathlib.Core.Path.{_≡_, refl, sym, ap, _∙_}
 use mathlib.Core.Bool.{Bool, true, false}
 use lib.Dec.{leb, eqb}
-use lib.Ieee.{isNan, ofBits, toBits}
+use lib.Ieee.{Float, isNan, ofBits, toBits}
 use mathlib.Core.List.{List, [], _∷_}
 use borrow.Author.Tests.{eq-eqb, ne-eqb}
 use lib.ListN.{length}
@@ -31,11 +31,15 @@ use Rattle.base.specs.declared.types.Refusal.the-variants.{
 use Rattle.octets.specs.Octets.{le, wordsOf, over}
 use Rattle.octets.proofs.Fill.{flat-length, le-length}
 use Rattle.select.specs.Answers.{bestNumber}
-use Rattle.select.specs.Choice.{bestOf}
+use Rattle.select.specs.Choice.{chooseOf, bestOf}
+use Rattle.select.specs.declared.types.Rival.{Rival}
+use Rattle.select.specs.declared.types.Chosen.{Chosen}
 use Rattle.select.specs.declared.types.BestAnswer.{BestAnswer}
 use Rattle.select.specs.declared.types.BestAnswer.the-variants as best
-use Rattle.fields.specs.Fields.{fieldLen, fieldOf}
-use Rattle.c_choice.specs.Choice.{bestWords, lentNumber, bestReply, bestOut}
+use Rattle.rivalrows.specs.Rows.{fieldIn}
+use Rattle.fields.specs.Fields.{fieldLen, rowsOf, fieldOf}
+use Rattle.c_reply.specs.declared.Reply.{Reply}
+use Rattle.c_choice.specs.Choice.{chosenReply, wordsReply, chooseReply, bestWords, lentNumber, bestReply, bestOut}
 
 -- no refusal has the number 0
 refusal-some : (why : Refusal) → eqb (refusalNumber why) 0 ≡ false
@@ -101,3 +105,23 @@ module _ (a b n : ℕ) {t : Bool} (e : t ≡ leb (length (wordsOf (a ∷ b ∷ [
 
   pub lent-no : t ≡ false → refusalNumber Lent ≡ lentNumber n
   lent-no f = let k : leb 16 n ≡ false = sixteen ∙ f in rw k
+
+-- ---- the words of the bytes
+
+-- the field of the bytes is that of their words
+pub field-rows : (s : List ℕ) {rows : List (List ℕ)} → rows ≡ rowsOf s → fieldIn rows ≡ fieldOf s
+unfolding fieldOf
+field-rows s e = ap fieldIn e
+
+-- the choice from bytes is the choice on the words of the bytes
+pub choose-words : (s : List ℕ) (margin : Float) → length s ≡ fieldLen → chooseReply s margin ≡ wordsReply (rowsOf s) margin
+unfolding chooseReply wordsReply
+choose-words s margin e =
+    rw (eq-eqb (length s) fieldLen e) (ap (λ (l : List Rival). chosenReply (chooseOf l margin)) (sym (field-rows s refl)))
+
+-- as the code finds it
+pub choose-rows : (s : List ℕ) (margin : Float) {rows : List (List ℕ)} {k : Chosen} {r : Reply} → length s ≡ fieldLen
+    → rows ≡ rowsOf s → k ≡ chooseOf (fieldIn rows) margin → r ≡ chosenReply k → r ≡ chooseReply s margin
+unfolding wordsReply
+choose-rows s margin e f g h =
+    h ∙ ap chosenReply (g ∙ ap (λ (w : List (List ℕ)). chooseOf (fieldIn w) margin) f) ∙ sym (choose-words s margin e)

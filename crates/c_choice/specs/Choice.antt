@@ -1,5 +1,5 @@
--- What the C functions of the choice reply: rivals from bytes, 13 where these are not as many as they must be, then the
--- choice's own numbers and values.
+-- What the C functions of the choice reply: rivals from bytes, 13 where these are not as many as they must be, or in
+-- words; then the choice's own numbers and values.
 use Prim.Native.Nat.{ℕ, zero, suc, _*_}
 use mathlib.Core.List.{List, [], _∷_}
 use mathlib.Core.Bool.{Bool, cond, _&&_}
@@ -33,6 +33,7 @@ use Rattle.select.specs.declared.types.HeldAnswer.{HeldAnswer}
 use Rattle.select.specs.declared.types.CostAnswer.{CostAnswer}
 use Rattle.select.specs.declared.types.SizeAnswer.{SizeAnswer}
 use Rattle.hold.specs.declared.Hold.{Hold}
+use Rattle.rivalrows.specs.Rows.{fieldIn}
 use Rattle.fields.specs.Fields.{rivalLen, fieldLen, pairLen, rivalFrom, fieldOf}
 use Rattle.c_reply.specs.declared.Reply.{Reply}
 use Rattle.c_reply.specs.Replies.{refusedReply, maybeLen}
@@ -40,6 +41,10 @@ use Rattle.c_reply.specs.Replies.{refusedReply, maybeLen}
 -- the place chosen
 abbrev pub chosenReply : Chosen → Reply
 chosenReply a = record { number = chosenNumber a; value = chosenValue a }
+
+-- of a field in words
+unfoldable pub wordsReply : List (List ℕ) → Float → Reply
+wordsReply rows margin = chosenReply (chooseOf (fieldIn rows) margin)
 
 -- 13 for bytes that are not a field
 unfoldable pub chooseReply : List ℕ → Float → Reply

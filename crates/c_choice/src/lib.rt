@@ -1,12 +1,12 @@
-// The choice among rivals, as C calls it: rivals as bytes.
+// The choice among rivals, as C calls it: rivals as bytes and as words.
 ghost use mathlib.Core.Path.{_≡_};
 ghost use lib.ListN.{length};
 ghost use mathlib.Core.List.{[], _∷_};
 ghost use Rattle.octets.specs.Octets.{over, wordsOf};
 ghost use Rattle.select.specs.Media.{tierOf, quickerOf, mediumOf, roleOf};
-ghost use Rattle.c_choice.specs.Choice.{chosenReply, chooseReply, lentNumber, bestReply, bestOut, heldReply};
-ghost use Rattle.c_choice.specs.Choice.{heldFrom, waitsFrom, reportsOf, holdReply, costReply, sizedReply};
-ghost use Rattle.c_choice.specs.Choice.{carriedReply};
+ghost use Rattle.c_choice.specs.Choice.{chosenReply, wordsReply, chooseReply, lentNumber, bestReply};
+ghost use Rattle.c_choice.specs.Choice.{bestOut, heldReply, heldFrom, waitsFrom, reportsOf, holdReply};
+ghost use Rattle.c_choice.specs.Choice.{costReply, sizedReply, carriedReply};
 use base::limits::MAX_LEN;
 use base::types::*;
 use c_reply::*;
@@ -14,10 +14,11 @@ use fields::FIELD_LEN;
 use fields::PAIR_LEN;
 use fields::RIVAL_LEN;
 use hold::Hold;
+use rivalrows::ROW;
 use select::types::*;
 
 // The place chosen, or the refusal.
-fn of_chosen(answer: Chosen) -> Reply
+pub fn of_chosen(answer: Chosen) -> Reply
     ensures { λ r. ⌜ r ≡ chosenReply answer ⌝ }
 {
     match answer {
@@ -33,8 +34,15 @@ pub fn choose(field: &[u8], margin: f64) -> Reply
     if field.len() != FIELD_LEN {
         return refuse(Refusal::Cut);
     }
-    let rivals = fields::field_from(field);
-    of_chosen(choices::choose(rivals, margin))
+    let rows = fields::rows_from(field);
+    of_chosen(choices::words::choose_in(&rows, margin))
+}
+
+// The same of a field in words.
+pub fn choose_words(field: &[[u64; ROW]; PATH_MAX_PER_PEER], margin: f64) -> Reply
+    ensures { λ r. ⌜ r ≡ wordsReply (now (field .entry)) margin ⌝ }
+{
+    of_chosen(choices::words::choose_in(field, margin))
 }
 
 // Writes two numbers into the lent bytes, or says 16 and writes nothing.
@@ -59,8 +67,8 @@ pub fn best(field: &[u8], out: &mut [u8]) -> u64
         let why = Refusal::Cut;
         return why.number();
     }
-    let rivals = fields::field_from(field);
-    match choices::best(rivals) {
+    let rows = fields::rows_from(field);
+    match choices::words::best_in(&rows) {
         BestAnswer::Score(x) => put_best(out, 1, total::etx_bits(x)),
         BestAnswer::Unscored => put_best(out, 0, 0),
         BestAnswer::Refused(why) => why.number(),

@@ -24,17 +24,16 @@ use Rattle.stop.specs.declared.types.MaybeStop.the-variants as stop
 use Rattle.live.specs.declared.types.Traffic.{Traffic}
 use Rattle.base.specs.Missing.{timeTag, timeOrZero}
 use Rattle.total.specs.Patterns.{etxBits}
-use Rattle.select.specs.declared.types.Medium.{Medium}
-use Rattle.select.specs.declared.types.Medium.the-variants as medium
 use Rattle.select.specs.declared.types.Role.{Role}
 use Rattle.select.specs.declared.types.Role.the-variants as role
-use Rattle.select.specs.Media.{mediumOf, roleOf}
+use Rattle.select.specs.Media.{roleOf}
+use Rattle.select.proofs.MediaLaws.{medium-small, medium-same}
 use Rattle.rules.specs.declared.types.Label.{Label}
 use Rattle.rules.specs.declared.types.Settings.{Settings}
 use Rattle.cells.specs.Cells.{flagIn, idIn, lengthIn, instantIn, sentIn, idsIn, stopIn, sizesIn, ladderIn}
 use Rattle.cells.specs.Cells.{trafficIn, missesIn, etxIn, spanIn, usedIn, labelFrom, labelIn, settingsIn}
 use Rattle.cells.specs.Code.{idWord, lenWord, sentRow, idsRow, stopRow, untilWord, ladderWord, arrivalsRow}
-use Rattle.cells.specs.Code.{spanRow, mediumBits, roleBits, flagBits, labelWord, settingsRow}
+use Rattle.cells.specs.Code.{spanRow, roleBits, flagBits, labelWord, settingsRow}
 
 -- a number below its width is itself
 low-same : (x : ℕ) → x < 2 ^ 32 → x % 2 ^ 32 ≡ x
@@ -195,26 +194,12 @@ flag-small : (b : Bool) → flagOf b < 2
 flag-small true = omega arith
 flag-small false = omega arith
 
--- a medium's number is below 4
-medium-small : (m : Medium) → mediumBits m < 4
-medium-small medium.Ble = omega arith
-medium-small medium.Wired = omega arith
-medium-small medium.Wireless = omega arith
-medium-small medium.Unknown = omega arith
-
 -- a role's number is below 4
 role-small : (r : Role) → roleBits r < 4
 role-small role.Never = omega arith
 role-small role.Backup = omega arith
 role-small role.Normal = omega arith
 role-small role.Preferred = omega arith
-
--- a medium by its number
-medium-same : (m : Medium) (x : ℕ) → x % 4 ≡ mediumBits m → mediumOf x ≡ m
-medium-same medium.Ble x e = rw e
-medium-same medium.Wired x e = rw e
-medium-same medium.Wireless x e = rw e
-medium-same medium.Unknown x e = rw e
 
 -- a role by its number
 role-same : (r : Role) (x : ℕ) → x % 4 ≡ roleBits r → roleOf x ≡ r

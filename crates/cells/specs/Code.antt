@@ -21,8 +21,7 @@ use Rattle.stop.specs.declared.types.MaybeStop.the-variants as stop
 use Rattle.live.specs.declared.types.Traffic.{Traffic}
 use Rattle.base.specs.Missing.{timeTag, timeOrZero}
 use Rattle.total.specs.Patterns.{etxBits}
-use Rattle.select.specs.declared.types.Medium.{Medium}
-use Rattle.select.specs.declared.types.Medium.the-variants as medium
+use Rattle.select.specs.Media.{mediumBits}
 use Rattle.select.specs.declared.types.Role.{Role}
 use Rattle.select.specs.declared.types.Role.the-variants as role
 use Rattle.rules.specs.Event.{roleWeight, pinnedWeight, fitsWeight, preferredWeight}
@@ -102,14 +101,7 @@ sampleBits (s ∷ l) = flagOf (s .used) + 2 * sampleBits l
 unfoldable pub spanRow : Span → List ℕ
 spanRow s = s .from ∷ s .to ∷ s .rtt ∷ flagOf (s .used) ∷ []
 
--- the numbers of media in an open's flags
-abbrev pub mediumBits : Medium → ℕ
-mediumBits medium.Ble = 0
-mediumBits medium.Wired = 1
-mediumBits medium.Wireless = 2
-mediumBits medium.Unknown = 3
-
--- and of roles
+-- the numbers of roles in an open's flags
 abbrev pub roleBits : Role → ℕ
 roleBits role.Never = 0
 roleBits role.Backup = 1

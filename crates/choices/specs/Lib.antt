@@ -1,2 +1,2 @@
--- The picks of the choice from what the scans find.
-pub mod Leads
+-- The choice by keys.
+pub mod Steps

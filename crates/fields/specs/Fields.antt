@@ -1,20 +1,17 @@
--- Rivals from bytes, for the host that runs the Rust's choice beside ours: twelve numbers of eight bytes for each:
--- held, index, scored, score, timed, RTT, steadied, steady, based, base RTT, tier, marks (bit 0 preferred, 1 pinned, 2
--- fits, 4 and 5 the medium).
-use Prim.Native.Nat.{ℕ, zero, suc, _*_, _/_, _%_}
+-- Rivals from bytes: for each the twelve words of its row (Rows.antt, crate rivalrows), eight bytes for a word.
+use Prim.Native.Nat.{ℕ, zero, suc, _*_}
 use mathlib.Core.List.{List, [], _∷_}
-use mathlib.Core.Bool.{Bool, cond}
-use lib.Dec.{eqb, ltb}
+use mathlib.Core.Bool.{cond}
+use lib.Dec.{ltb}
 use lib.ListN.{length, drop, replicate}
-use Rattle.total.specs.Patterns.{floatOf}
 use Rattle.octets.specs.Octets.{readAt}
-use Rattle.select.specs.Media.{mediumOf}
-use Rattle.select.specs.Rivals.{maxPaths, noRival}
+use Rattle.select.specs.Rivals.{maxPaths}
 use Rattle.select.specs.declared.types.Rival.{Rival}
+use Rattle.rivalrows.specs.Rows.{rowLen, rivalIn, fieldIn}
 
 -- the bytes of a rival
 abbrev pub rivalLen : ℕ
-rivalLen = 96
+rivalLen = 8 * rowLen
 
 -- the bytes of a field, a rival for each place
 abbrev pub fieldLen : ℕ
@@ -24,36 +21,25 @@ fieldLen = maxPaths * rivalLen
 abbrev pub pairLen : ℕ
 pairLen = 2 * rivalLen
 
--- an odd number is a mark that stands
-abbrev pub bitOf : ℕ → Bool
-bitOf x = eqb (x % 2) 1
+-- the words of the row at the front of the bytes
+unfoldable pub rowFrom : List ℕ → List ℕ
+rowFrom s =
+    readAt 0 8 s ∷ readAt 8 8 s ∷ readAt 16 8 s ∷ readAt 24 8 s ∷ readAt 32 8 s ∷ readAt 40 8 s ∷ readAt 48 8 s
+    ∷ readAt 56 8 s ∷ readAt 64 8 s ∷ readAt 72 8 s ∷ readAt 80 8 s ∷ readAt 88 8 s ∷ []
 
 -- the rival at the front of the bytes
 unfoldable pub rivalFrom : List ℕ → Rival
-rivalFrom s =
-    record {
-      score = floatOf (readAt 24 8 s);
-      steady = floatOf (readAt 56 8 s);
-      rtt = readAt 40 8 s;
-      base = readAt 72 8 s;
-      index = readAt 8 8 s;
-      tier = readAt 80 8 s % 256;
-      held = bitOf (readAt 0 8 s);
-      scored = bitOf (readAt 16 8 s);
-      steadied = bitOf (readAt 48 8 s);
-      timed = bitOf (readAt 32 8 s);
-      based = bitOf (readAt 64 8 s);
-      preferred = bitOf (readAt 88 8 s);
-      pinned = bitOf (readAt 88 8 s / 2);
-      fits = bitOf (readAt 88 8 s / 4);
-      medium = mediumOf (readAt 88 8 s / 16);
-    }
+rivalFrom s = rivalIn (rowFrom s)
 
--- the first n rivals
-abbrev pub rivalsFrom : ℕ → List ℕ → List Rival
-rivalsFrom zero s = []
-rivalsFrom (suc n) s = rivalFrom s ∷ rivalsFrom n (drop rivalLen s)
+-- the first n rows
+abbrev pub rowsFrom : ℕ → List ℕ → List (List ℕ)
+rowsFrom zero s = []
+rowsFrom (suc n) s = rowFrom s ∷ rowsFrom n (drop rivalLen s)
 
--- a field of rivals, empty where there are fewer bytes
+-- the rows of a field, of nothing where there are fewer bytes
+unfoldable pub rowsOf : List ℕ → List (List ℕ)
+rowsOf s = cond (ltb (length s) fieldLen) (replicate maxPaths (replicate rowLen 0)) (rowsFrom maxPaths s)
+
+-- a field of rivals
 unfoldable pub fieldOf : List ℕ → List Rival
-fieldOf s = cond (ltb (length s) fieldLen) (replicate maxPaths noRival) (rivalsFrom maxPaths s)
+fieldOf s = fieldIn (rowsOf s)

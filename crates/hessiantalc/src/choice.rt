@@ -1,8 +1,9 @@
-// The choice among rivals: rivals as bytes.
+// The choice among rivals: rivals as bytes and as words.
 ghost use mathlib.Core.Path.{_≡_};
 ghost use lib.ListN.{length};
 ghost use Rattle.select.specs.Media.{tierOf, quickerOf, mediumOf, roleOf};
-ghost use Rattle.c_choice.specs.Choice.{chooseReply, bestReply, bestOut, heldFrom, waitsFrom, holdReply, carriedReply};
+ghost use Rattle.c_choice.specs.Choice.{chooseReply, wordsReply, bestReply, bestOut, heldFrom, waitsFrom, holdReply};
+ghost use Rattle.c_choice.specs.Choice.{carriedReply};
 use c_reply::Reply;
 
 // The place of the path that `choose` takes of a field.
@@ -11,6 +12,14 @@ pub extern "C" fn hess_choose(field: &[u8], margin: f64) -> Reply
     ensures { λ r. ⌜ r ≡ chooseReply (now (field .entry)) margin ⌝ }
 {
     c_choice::choose(field, margin)
+}
+
+// The same of a field in words.
+#[no_mangle]
+pub extern "C" fn hess_choose_words(field: &[[u64; 12]; 8], margin: f64) -> Reply
+    ensures { λ r. ⌜ r ≡ wordsReply (now (field .entry)) margin ⌝ }
+{
+    c_choice::choose_words(field, margin)
 }
 
 // Writes whether there is a best score, and its bits.

@@ -1,6 +1,7 @@
 // What holds a change of the active path, and the hold on the link's cost after one.
 ghost use mathlib.Core.Path.{_≡_};
 ghost use Prim.Native.Nat.{_-_};
+ghost use Rattle.select.specs.Rivals.{isLong};
 ghost use Rattle.hold.specs.Hold.{keptOf, fasterOf, beatsOf, staysOf, aboveOf, eitherLong, heldOf, waitsOf};
 ghost use Rattle.hold.specs.Hold.{newHold, reportOf, holdsOf, costOf};
 use base::limits::DURATION_END;
@@ -53,11 +54,18 @@ fn above(to: Rival, from: Rival, margin: f64) -> bool
     (from.steadied & to.scored) & (to.score > from.steady * margin)
 }
 
+// Whether a rival has a round trip of 2^62 or more.
+fn long(r: Rival) -> bool
+    ensures { λ k. ⌜ k ≡ isLong r ⌝ }
+{
+    (r.timed & (DURATION_END <= r.rtt)) | (r.based & (DURATION_END <= r.base))
+}
+
 // Whether either has a round trip of 2^62 or more.
 fn either_long(to: Rival, from: Rival) -> bool
     ensures { λ k. ⌜ k ≡ eitherLong to from ⌝ }
 {
-    gate::long(to) | gate::long(from)
+    long(to) | long(from)
 }
 
 // Whether a change on score from the active path `from` to `to` is held.

@@ -3,7 +3,7 @@ ghost use mathlib.Core.Path.{_≡_};
 ghost use Prim.Native.Nat.{_<_};
 ghost use Rattle.cells.specs.Cells.{usedIn, labelFrom, labelIn, settingsIn};
 ghost use Rattle.base.specs.Seq.{flagOf};
-ghost use Rattle.cells.specs.Code.{mediumBits, roleBits, flagBits, labelWord, settingsRow};
+ghost use Rattle.cells.specs.Code.{roleBits, flagBits, labelWord, settingsRow};
 use cells::words::*;
 use rules::types::*;
 use select::types::*;
@@ -39,18 +39,6 @@ pub fn label_in(w: u64) -> Label
     label_of(w, w / 131072)
 }
 
-// The number of a medium in an open's flags.
-fn medium_bits(m: Medium) -> u64
-    ensures { λ r. ⌜ (r ≡ mediumBits m) × (r < 4) ⌝ }
-{
-    match m {
-        Medium::Ble => 0,
-        Medium::Wired => 1,
-        Medium::Wireless => 2,
-        Medium::Unknown => 3,
-    }
-}
-
 // The number of a role in an open's flags.
 fn role_bits(m: Role) -> u64
     ensures { λ r. ⌜ (r ≡ roleBits m) × (r < 4) ⌝ }
@@ -76,7 +64,7 @@ fn flag_bits(l: Label) -> u64
 {
     let medium = l.medium;
     let role = l.role;
-    let m = medium_bits(medium);
+    let m = select::media::medium_bits(medium);
     let n = role_bits(role);
     let a = bit(l.pinned);
     let b = bit(l.fits);

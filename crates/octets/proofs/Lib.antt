@@ -2,3 +2,4 @@
 pub mod Write
 pub mod Fill
 pub mod Read
+pub mod Eight

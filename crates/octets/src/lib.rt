@@ -67,3 +67,26 @@ pub fn get(s: &[u8], at: usize, width: usize) -> u64
     }
     x
 }
+
+// The number in the eight bytes from `at` on, in one step; 0 where these are not there.
+pub fn word(s: &[u8], at: usize) -> u64
+    ensures { λ r. ⌜ r ≡ readAt at 8 (now (s .entry)) ⌝ }
+{
+    if s.len() < at {
+        return 0;
+    }
+    if s.len() - at < 8 {
+        return 0;
+    }
+    let a = wide(s[at]);
+    let b = wide(s[at + 1]);
+    let c = wide(s[at + 2]);
+    let d = wide(s[at + 3]);
+    let e = wide(s[at + 4]);
+    let f = wide(s[at + 5]);
+    let g = wide(s[at + 6]);
+    let h = wide(s[at + 7]);
+    let low = a + b * 0x100 + c * 0x1_0000 + d * 0x100_0000;
+    let high = e + f * 0x100 + g * 0x1_0000 + h * 0x100_0000;
+    low + high * 0x1_0000_0000
+}

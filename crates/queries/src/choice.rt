@@ -3,12 +3,15 @@ ghost use mathlib.Core.Path.{_≡_};
 ghost use mathlib.Core.List.{map};
 ghost use Rattle.scores.specs.Scores.{scoreIn, isScored};
 ghost use Rattle.select.specs.Slim.{slimOf};
+ghost use Rattle.rivalrows.specs.Rows.{fieldIn, rowOf};
 ghost use Rattle.rules.specs.Step.{rivalOf, rivalsAt, isMargin};
 ghost use Rattle.rows.specs.View.{slotIn};
 ghost use Rattle.queries.specs.Choosing.{slotReply, chosenOf};
 use crate::slots;
 use base::missing::*;
 use base::types::*;
+use rivalrows::ROW;
+use rivalrows::row_of;
 use rowmeasures::*;
 use rows::places::ROWS;
 use rows::whole::*;
@@ -68,17 +71,18 @@ pub fn rival(i: usize, p: &[[u64; 4]; ROWS]) -> Rival
     }
 }
 
-// The eight slots as rivals, each under its number, as a choice reads them.
-fn rivals(rec: &[[[u64; 4]; ROWS]; PATH_MAX_PER_PEER]) -> [Rival; PATH_MAX_PER_PEER]
-    ensures { λ r. ⌜ r ≡ map slimOf (rivalsAt 0 (map slotIn (now (rec .entry)))) ⌝ }
+// The rows of the eight slots' rivals, each under its number, as a choice reads them.
+fn rival_rows(rec: &[[[u64; 4]; ROWS]; PATH_MAX_PER_PEER]) -> [[u64; ROW]; PATH_MAX_PER_PEER]
+    ensures { λ r. ⌜ (r ≡ map rowOf (map slimOf (rivalsAt 0 (map slotIn (now (rec .entry))))))
+        × (fieldIn r ≡ map slimOf (rivalsAt 0 (map slotIn (now (rec .entry))))) ⌝ }
 {
     slots(rec);
-    let none = Rival::none();
-    let mut field = [none; PATH_MAX_PER_PEER];
+    let mut field: [[u64; ROW]; PATH_MAX_PER_PEER] = [[0; ROW]; PATH_MAX_PER_PEER];
     let mut i: usize = 0;
     while i < PATH_MAX_PER_PEER {
         let r = rival(i, &rec[i]);
-        field[i] = r;
+        let row = row_of(r);
+        field[i] = row;
         i += 1;
     }
     field
@@ -107,8 +111,8 @@ pub fn chosen(rec: &[[[u64; 4]; ROWS]; PATH_MAX_PER_PEER], span: u64) -> Reply
 {
     let margin = total::float_of(span);
     if is_margin(margin) {
-        let field = rivals(rec);
-        let m = choices::picked(field, margin);
+        let field = rival_rows(rec);
+        let m = choices::words::picked_in(&field, margin);
         return choice_reply(m);
     }
     Reply::Refused(Refusal::Margin)

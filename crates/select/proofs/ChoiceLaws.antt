@@ -245,7 +245,7 @@ ranked-all p l h = ranked-named p l (every-only p (λ (r : Rival). r .pinned) (r
     (every-keep p (λ (r : Rival). r .held) l h))
 
 -- what the picked one passes, the rival at the place of its index passes
-at-index : (q : Rival → Bool) (l : List Rival) (margin : Float) (r : Rival) → placed 0 l ≡ true
+pub at-index : (q : Rival → Bool) (l : List Rival) (margin : Float) (r : Rival) → placed 0 l ≡ true
     → pickedOf l margin ≡ Some r → q r ≡ true → q (getD l (r .index) noRival) ≡ true
 at-index q l margin r e p h =
     let m : marked q l r ≡ true =

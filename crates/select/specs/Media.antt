@@ -26,6 +26,13 @@ speedOf medium.Unknown = 3
 abbrev pub quickerOf : Medium → Medium → Bool
 quickerOf a b = ltb (speedOf b) 3 && ltb (speedOf a) (speedOf b)
 
+-- the number of a medium
+abbrev pub mediumBits : Medium → ℕ
+mediumBits medium.Ble = 0
+mediumBits medium.Wired = 1
+mediumBits medium.Wireless = 2
+mediumBits medium.Unknown = 3
+
 -- a medium and a role by their numbers, modulo 4
 abbrev pub mediumOf : ℕ → Medium
 mediumOf x =

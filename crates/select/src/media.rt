@@ -1,6 +1,7 @@
 // Roles and media.
 ghost use mathlib.Core.Path.{_≡_};
-ghost use Rattle.select.specs.Media.{tierOf, speedOf, quickerOf, mediumOf, roleOf};
+ghost use Prim.Native.Nat.{_<_};
+ghost use Rattle.select.specs.Media.{tierOf, speedOf, quickerOf, mediumBits, mediumOf, roleOf};
 use crate::types::*;
 
 // The tier of a role, higher ranking first.
@@ -34,6 +35,18 @@ pub fn quicker(a: Medium, b: Medium) -> bool
     let x = speed(a);
     let y = speed(b);
     (y < 3) & (x < y)
+}
+
+// The number of a medium.
+pub fn medium_bits(m: Medium) -> u64
+    ensures { λ r. ⌜ (r ≡ mediumBits m) × (r < 4) ⌝ }
+{
+    match m {
+        Medium::Ble => 0,
+        Medium::Wired => 1,
+        Medium::Wireless => 2,
+        Medium::Unknown => 3,
+    }
 }
 
 // A medium by its number, modulo 4.

@@ -3,3 +3,4 @@ pub mod KeyLaws
 pub mod ValueLaws
 pub mod OrderLaws
 pub mod StrictLaws
+pub mod PlaceLaws

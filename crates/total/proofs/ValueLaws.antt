@@ -29,6 +29,13 @@ no-nan nan h = absurd (true≢false h)
 no-nan (inf s) h = refl
 no-nan (fin s m e) h = refl
 
+-- a NaN is the one
+pub the-nan : (x : Float) → isNan x ≡ true → nan ≡ x
+unfolding isNan
+the-nan nan h = refl
+the-nan (inf s) h = absurd (false≢true h)
+the-nan (fin s m e) h = absurd (false≢true h)
+
 -- ---- of two numbers, one is below the other or they are equal
 
 level-of : (s t : Bool) (a b : ℕ) → below s a t b ≡ false → below t b s a ≡ false → level s a t b ≡ true
@@ -70,20 +77,20 @@ zero-f = ofBits binary64 0
 abbrev one-f : Float
 one-f = ofBits binary64 0x3ff0_0000_0000_0000
 
-both : (a b : Bool) → a && b ≡ true → (a ≡ true) × (b ≡ true)
+pub both : (a b : Bool) → a && b ≡ true → (a ≡ true) × (b ≡ true)
 both true true h = (refl, refl)
 both true false h = absurd (false≢true h)
 both false b h = absurd (false≢true h)
 
-no-mag : (m : ℕ) (e d : ℤ) → m * up e * down d ≡ 0 → m ≡ 0
+pub no-mag : (m : ℕ) (e d : ℤ) → m * up e * down d ≡ 0 → m ≡ 0
 no-mag zero e d h = refl
 no-mag (suc m) e d h = absurd (omega (arith, mul-pos (mul-pos (zero-lt-suc m) (up-pos e)) (down-pos d)))
 
-mag-zero : (m : ℕ) (e d : ℤ) → m ≡ 0 → m * up e * down d ≡ 0
+pub mag-zero : (m : ℕ) (e d : ℤ) → m ≡ 0 → m * up e * down d ≡ 0
 mag-zero m e d h = simp (h, zero-mul)
 
 -- a number that equals 0.0 has m = 0
-zero-m : (s : Bool) (m : ℕ) (e : ℤ) → eq (fin s m e) zero-f ≡ true → m ≡ 0
+pub zero-m : (s : Bool) (m : ℕ) (e : ℤ) → eq (fin s m e) zero-f ≡ true → m ≡ 0
 unfolding eq ofBits
 zero-m s m e h = no-mag m e (pos 0) (eqb-true (m * up e * 1) (0 * 1 * down e) (both _ _ h .0) ∙ simp zero-mul)
 
@@ -111,9 +118,11 @@ like true t h = refl
 like false true h = absurd (false≢true h)
 like false false h = refl
 
-is-zero : (m : ℕ) (e : ℤ) → m ≡ 0 → eq (fin false m e) zero-f ≡ true
+pub is-zero : (s : Bool) (m : ℕ) (e : ℤ) → m ≡ 0 → eq (fin s m e) zero-f ≡ true
 unfolding eq ofBits
-is-zero m e h = simp (eq-eqb (m * up e * 1) (0 * 1 * down e) (mag-zero m e (pos 0) h ∙ sym (simp zero-mul)))
+is-zero true m e h =
+    simp (eq-eqb (m * up e * 1) (0 * 1 * down e) (mag-zero m e (pos 0) h ∙ sym (simp zero-mul)), eq-eqb (m * up e * 1) 0 (mag-zero m e (pos 0) h))
+is-zero false m e h = simp (eq-eqb (m * up e * 1) (0 * 1 * down e) (mag-zero m e (pos 0) h ∙ sym (simp zero-mul)))
 
 -- equal numbers other than zeros have one sign
 pub others : (x y : Float) → eq x y ≡ true → eq x zero-f ≡ false → (negative x || not (negative y)) ≡ true
@@ -128,4 +137,4 @@ others (fin true m e) (fin t n d) h z = refl
 others (fin false m e) (fin false n d) h z = refl
 others (fin false m e) (fin true n d) h z =
     let p : m ≡ 0 = no-mag m e d (eqb-true (m * up e * down d) 0 (both (eqb (m * up e * down d) (n * up d * down e)) (eqb (m * up e * down d) 0) h .1)) in
-    absurd (true≢false (sym (is-zero m e p) ∙ z))
+    absurd (true≢false (sym (is-zero false m e p) ∙ z))

@@ -1,10 +1,11 @@
-// Orders on f64: totalOrder on bit patterns and on values, clamp and maximum; a float and its pattern.
+// Orders on f64: totalOrder on bit patterns and on values, clamp and maximum; a float, its pattern and its place.
 ghost use mathlib.Core.Path.{_≡_};
 ghost use mathlib.Core.Bool.{cond};
 ghost use lib.Ieee.{binary64, lt};
 ghost use Rattle.total.specs.Total.{totalAt, keyAt};
 ghost use Rattle.total.specs.Values.{totalOf, clampOf, maxOf};
 ghost use Rattle.total.specs.Patterns.{floatOf, etxBits};
+ghost use Rattle.total.specs.Places.{keyOf, keyFloat, limitKey};
 
 // Where a pattern stands in totalOrder: a positive one counts up from 2^63, a negative one down from below it.
 pub fn order_key(b: u64) -> u64
@@ -103,4 +104,48 @@ pub fn etx_bits(x: f64) -> u64
         return 0x7ff8_0000_0000_0000;
     }
     f64::to_bits(x)
+}
+
+// One of two numbers. On numbers alone the compiler makes this a step and no branch.
+pub fn pick(t: bool, a: u64, b: u64) -> u64
+    ensures { λ r. ⌜ r ≡ cond t a b ⌝ }
+{
+    if t { a } else { b }
+}
+
+// Where the float of a pattern stands in totalOrder; every NaN where the positive quiet one does.
+pub fn pattern_key(b: u64) -> u64
+    ensures { λ r. ⌜ r ≡ keyOf (floatOf b) ⌝ }
+{
+    let rest = b % 0x8000_0000_0000_0000;
+    let number = pick(
+        b < 0x8000_0000_0000_0000,
+        rest + 0x8000_0000_0000_0000,
+        0x7fff_ffff_ffff_ffff - rest,
+    );
+    pick(rest > 0x7ff0_0000_0000_0000, 0xfff8_0000_0000_0000, number)
+}
+
+// The float that stands at a place.
+pub fn key_float(k: u64) -> f64
+    ensures { λ r. ⌜ r ≡ keyFloat k ⌝ }
+{
+    float_of(pick(
+        k < 0x8000_0000_0000_0000,
+        u64::MAX - k,
+        k % 0x8000_0000_0000_0000,
+    ))
+}
+
+// The last place whose float is at most x: that of +0 for either zero, and 0, where no number stands, for a NaN.
+pub fn limit_key(x: f64) -> u64
+    ensures { λ r. ⌜ r ≡ limitKey x ⌝ }
+{
+    if x != x {
+        return 0;
+    }
+    if x == 0.0 {
+        return 0x8000_0000_0000_0000;
+    }
+    order_key(etx_bits(x))
 }

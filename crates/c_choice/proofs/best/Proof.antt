@@ -1,10 +1,10 @@
 -- `c_choice::best` meets its contract.
 -- Assumes nothing.
+use borrow.Author.Needs.{needs}
 use mathlib.Core.Path.{ap, _∙_}
 use Rattle.select.specs.Answers.{bestNumber}
 use Rattle.select.specs.Choice.{bestOf}
-use Rattle.c_choice.proofs.ChoiceLaws.{best-cut, best-done, best-not, zero-words}
-use borrow.Author.Needs.{needs}
+use Rattle.c_choice.proofs.ChoiceLaws.{best-cut, best-done, best-not, zero-words, field-rows}
 use Rattle.c_choice.proofs.best.Statement.{statement}
 use Rattle.c_choice.proofs.best.Tie as tie
 
@@ -14,11 +14,11 @@ number-requires c κs = search needs
 returns : tie.Need-returns
 returns c = best-cut _ _ (c .before .if1 .taken) (c .number .ensures)
 
-field-from-requires : tie.Need-field-from-requires
-field-from-requires c κs = search needs
+rows-from-requires : tie.Need-rows-from-requires
+rows-from-requires c κs = search needs
 
-best-requires : tie.Need-best-requires
-best-requires c κs = search needs
+best-in-requires : tie.Need-best-in-requires
+best-in-requires c κs = search needs
 
 enum-known-x : tie.Need-enum-known-x
 enum-known-x c = search needs
@@ -45,29 +45,16 @@ same-length : tie.Need-same-length
 same-length c = search needs
 
 returns-2 : tie.Need-returns-2
-returns-2 c = best-done _ _ (c .before .before .before .before .before .before .before .before .before .before .if1
-    .left) (c .before .before .before .before .before .before .before .before .best .ensures ∙ ap bestOf
-    (c .before .before .before .before .before .before .before .before .before .field-from .ensures))
-    (ap bestNumber (c .before .before .before .before .before .before .x .given .1))
-    (c .before .before .put-best .ensures .0)
-    (rw (c .before .before .before .before .before .before .x .given .1, c .before .before .before .etx-bits .ensures))
-    (c .before .before .put-best .ensures .1)
+returns-2 c = best-done _ _ (c .before .before .before .before .before .before .before .before .before .before .before .if1 .left) (c .before .before .before .before .before .before .before .before .best-in .ensures ∙ ap bestOf (field-rows _ (c .before .before .before .before .before .before .before .before .before .before .rows-from .ensures))) (ap bestNumber (c .before .before .before .before .before .before .x .given .1)) (c .before .before .put-best .ensures .0) (rw (c .before .before .before .before .before .before .x .given .1, c .before .before .before .etx-bits .ensures)) (c .before .before .put-best .ensures .1)
 
 same-length-2 : tie.Need-same-length-2
 same-length-2 c = search needs
 
 returns-3 : tie.Need-returns-3
-returns-3 c = best-done _ _ (c .before .before .before .before .before .before .before .before .if1 .left)
-    (c .before .before .before .before .before .before .best .ensures ∙ ap bestOf
-    (c .before .before .before .before .before .before .before .field-from .ensures))
-    (ap bestNumber (c .before .before .before .before .enum-told .given .1)) (c .before .before .put-best2 .ensures .0)
-    (zero-words (c .before .before .before .before .enum-told .given .1)) (c .before .before .put-best2 .ensures .1)
+returns-3 c = best-done _ _ (c .before .before .before .before .before .before .before .before .before .if1 .left) (c .before .before .before .before .before .before .best-in .ensures ∙ ap bestOf (field-rows _ (c .before .before .before .before .before .before .before .before .rows-from .ensures))) (ap bestNumber (c .before .before .before .before .enum-told .given .1)) (c .before .before .put-best2 .ensures .0) (zero-words (c .before .before .before .before .enum-told .given .1)) (c .before .before .put-best2 .ensures .1)
 
 returns-4 : tie.Need-returns-4
-returns-4 c = best-not _ _ (c .before .before .before .before .before .before .if1 .left)
-    (c .before .before .before .before .best .ensures ∙ ap bestOf
-    (c .before .before .before .before .before .field-from .ensures)) (c .before .before .why .given .1)
-    (c .number2 .ensures)
+returns-4 c = best-not _ _ (c .before .before .before .before .before .before .before .if1 .left) (c .before .before .before .before .best-in .ensures ∙ ap bestOf (field-rows _ (c .before .before .before .before .before .before .rows-from .ensures))) (c .before .before .why .given .1) (c .number2 .ensures)
 
 pub best-spec : {M : Type 1} → statement M
 best-spec =
@@ -75,8 +62,8 @@ best-spec =
     (tie.spec
     number-requires
     returns
-    field-from-requires
-    best-requires
+    rows-from-requires
+    best-in-requires
     enum-known-x
     etx-bits-requires
     put-best-requires

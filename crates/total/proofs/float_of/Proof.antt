@@ -2,19 +2,14 @@
 -- (`nanBits-above`).
 -- Assumes nothing.
 use mathlib.Core.Path.{_≡_, refl, sym, _∙_, subst}
-use mathlib.Core.Bool.{Bool, true, not, false≢true}
+use mathlib.Core.Bool.{Bool, not}
 use borrow.Author.Tests.{lt-ltb, le-ltb}
 use lib.Dec.{T}
-use lib.Ieee.{Float, nan, inf, fin, binary64, ofBits, div, isNan}
+use lib.Ieee.{nan, binary64, ofBits, div}
 use lib.Ieee.Bits.{nanBits-is, nanBits-above}
+use Rattle.total.proofs.ValueLaws.{the-nan}
 use Rattle.total.proofs.float_of.Statement.{statement}
 use Rattle.total.proofs.float_of.Tie as tie
-
-the-nan : (x : Float) → isNan x ≡ true → nan ≡ x
-unfolding isNan
-the-nan nan h = refl
-the-nan (inf s) h = absurd (false≢true h)
-the-nan (fin s m e) h = absurd (false≢true h)
 
 float-from-bits-result : tie.Need-float-from-bits-result
 float-from-bits-result c =

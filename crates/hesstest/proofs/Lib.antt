@@ -1,0 +1,2 @@
+-- A field by value.
+pub mod FieldLaws

@@ -1,0 +1,70 @@
+-- `leads::keys::speeds` meets its contract: the loop fills each place. The measure is the places left.
+-- Assumes nothing.
+use borrow.Author.Needs.{needs}
+use Prim.Native.Nat.{_-_}
+use mathlib.Core.Path.{_≡_}
+use mathlib.Core.List.{map}
+use lib.ListN.{length}
+use denote.Ref.{now}
+use Rattle.rivalrows.specs.Rows.{fieldIn}
+use Rattle.leads.specs.Keys.{speedKey}
+use Rattle.leads.proofs.LoopLaws.{Filling, rows-start, rows-next, filling-end}
+use Rattle.leads.proofs.keys.speeds.Statement.{statement}
+use Rattle.leads.proofs.keys.speeds.Tie as tie
+
+abbrev Inv-loop : tie.InvT-loop
+Inv-loop field out₀ i₀ out i = (length field ≡ 8) × Filling (map speedKey (fieldIn field)) out i
+
+abbrev μ-loop : tie.MeasureT-loop
+μ-loop field out₀ i₀ out i = 8 - i
+
+places-requires : tie.Need-places-requires Inv-loop μ-loop
+places-requires c κs = search needs
+
+loop-holds : tie.Need-loop-holds Inv-loop μ-loop
+loop-holds c = (c .places .ensures .1, rows-start speedKey (now (c .before .args .field)) (c .places .ensures .1) (search needs))
+
+mul-speed : tie.Need-mul-speed Inv-loop μ-loop
+mul-speed c = search needs
+
+index-1-speed : tie.Need-index-1-speed Inv-loop μ-loop
+index-1-speed c = search needs
+
+speed-requires : tie.Need-speed-requires Inv-loop μ-loop
+speed-requires c κs = search needs
+
+mul-out : tie.Need-mul-out Inv-loop μ-loop
+mul-out c = search needs
+
+array-write-out : tie.Need-array-write-out Inv-loop μ-loop
+array-write-out c = search needs
+
+add-i : tie.Need-add-i Inv-loop μ-loop
+add-i c = search needs
+
+loop-less : tie.Need-loop-less Inv-loop μ-loop
+loop-less c = search needs
+
+loop-again : tie.Need-loop-again Inv-loop μ-loop
+loop-again c = (c .before .before .before .loop .inv .0, rows-next speedKey (now (c .before .before .before .before .before .args .field)) (c .before .before .before .loop .inv .0) (c .before .before .before .loop .inv .1) (c .before .before .loop-test .taken) (c .speed .ensures))
+
+returns : tie.Need-returns Inv-loop μ-loop
+returns c = filling-end (c .before .loop .inv .1) (c .loop-test .left)
+
+pub speeds-spec : {M : Type 1} → statement M
+speeds-spec =
+    tie.close
+    (tie.spec
+    Inv-loop
+    μ-loop
+    places-requires
+    loop-holds
+    mul-speed
+    index-1-speed
+    speed-requires
+    mul-out
+    array-write-out
+    add-i
+    loop-less
+    loop-again
+    returns)

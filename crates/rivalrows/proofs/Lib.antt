@@ -1,0 +1,2 @@
+-- A rival and its row.
+pub mod RowLaws

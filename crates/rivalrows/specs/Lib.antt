@@ -1,0 +1,2 @@
+-- A rival in words.
+pub mod Rows

@@ -1,2 +1,0 @@
--- What the scans of a field read and find.
-pub mod Scans
