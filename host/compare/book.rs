@@ -1,5 +1,6 @@
 //! A path's book, kept from the arguments, refusals and values of its events and never from a record.
-//! Written from document 01 alone ("Ring", "Size search", "Peer record"); nothing of the oracle is in it.
+//! Written from document 01 alone ("Ring", "Size search", "Peer record"), and for due instants from document
+//! 02 (T-09); nothing of the oracle is in it.
 
 use std::collections::{BTreeMap, BTreeSet};
 
@@ -70,6 +71,9 @@ pub struct Book {
     pub carries: Carries,
     /// When the next search probe may go, where none is out.
     pub next_try: Option<u64>,
+    /// The identifier after the last one given, and whether a probe got 23 since that.
+    pub next_id: Option<u32>,
+    pub refused: bool,
     data: Option<u64>,
 }
 
@@ -101,6 +105,14 @@ impl Book {
             fits: flags >> 5 & 1 == 1,
             ..Self::default()
         }
+    }
+
+    /// An identifier is given: whether it is the next one, the draw being the first.
+    pub fn give(&mut self, id: u32, draw: u32) -> bool {
+        let next = self.next_id.unwrap_or(draw);
+        self.next_id = Some(id.wrapping_add(1));
+        self.refused = false;
+        id == next
     }
 
     pub fn probe(&mut self, id: u32, sent: u64, due: u64) {

@@ -1,5 +1,6 @@
-//! Demand 3's clauses over a list of events and its answers, by document 01: a checker with a book for
-//! each slot. It counts what each clause was tried on, and which clauses were broken.
+//! Demand 3's clauses over a list of events and its answers, by document 01, and what document 02 says of due
+//! instants: a checker with a book for each slot. It counts what each clause was tried on, and which clauses
+//! were broken.
 
 use crate::book::{Book, Turn, deadline, passed};
 use crate::calls::{IDS, LATE, PROVEN, RING, SEEK};
@@ -7,7 +8,7 @@ use oracle::proto::path::record::{Event, Reply, SLOTS};
 use oracle::proto::path::script::Image;
 use std::collections::BTreeMap;
 
-/// The clauses, in demand 3's order.
+/// The clauses, in demand 3's order; then document 02's.
 #[derive(Clone, Copy, Debug, PartialEq, Eq, PartialOrd, Ord)]
 pub enum Clause {
     /// Sent = answered in time + lapsed + swept + waiting.
@@ -30,9 +31,12 @@ pub enum Clause {
     Values,
     /// Proven, lost, out, the next try and answered of the record are the book's.
     Agree,
+    /// Just the probes due before their now get 23, of those on an open path with an allowed length; the
+    /// identifier given next is that after the last.
+    Dues,
 }
 
-pub const CLAUSES: [Clause; 10] = [
+pub const CLAUSES: [Clause; 11] = [
     Clause::Sum,
     Clause::Ring,
     Clause::Once,
@@ -43,6 +47,7 @@ pub const CLAUSES: [Clause; 10] = [
     Clause::Choose,
     Clause::Values,
     Clause::Agree,
+    Clause::Dues,
 ];
 
 /// Counts by what was tried, and the first break of each clause.
@@ -106,9 +111,12 @@ impl<'a> Checker<'a> {
     /// One event and its answer.
     pub fn event(&mut self, e: &Event, reply: Reply) {
         if e.kind == 15 {
+            let why = || "a choose gets 23".to_string();
+            self.tried.hold(Clause::Dues, reply.0 != 23, why);
             return self.choose(f64::from_bits(e.span), reply);
         }
         let slot = usize::from(e.slot);
+        self.due(slot, e, reply);
         if reply.0 != 0 || slot >= SLOTS {
             return;
         }
@@ -148,6 +156,37 @@ impl<'a> Checker<'a> {
         self.sum(&book);
         self.rest(&book, turn);
         self.books[slot] = Some(book);
+    }
+
+    /// Document 02, T-09: a probe whose due instant lies before its now gets 23, after 1, 2 and 5 and before 8,
+    /// and nothing else does. It takes no identifier.
+    fn due(&mut self, slot: usize, e: &Event, (number, value): Reply) {
+        let mut book = self.books.get_mut(slot).and_then(Option::as_mut);
+        let early = e.kind == 2 && e.span < e.now;
+        let owed = early && book.is_some() && e.len <= 65_535;
+        let eight = book.as_ref().is_some_and(|book| book.waiting.len() == 8);
+        let tried = &mut self.tried;
+        tried.count("probes due before their now", owed && !eight);
+        tried.count("probes due before their now, eight waiting", owed && eight);
+        tried.count("probes due before their now, none open", early && !owed);
+        let at = e.kind == 2 && e.span == e.now && number == 0;
+        tried.count("probes sent due at their now", at);
+        let why = || {
+            let (now, due) = (e.now, e.span);
+            format!("kind {} at {now}, due {due}, has {number}", e.kind)
+        };
+        tried.hold(Clause::Dues, (number == 23) == owed, why);
+        let Some(book) = &mut book else {
+            return;
+        };
+        if number == 0 && matches!(e.kind, 2 | 8) {
+            let refused = book.refused;
+            let next = book.give(value as u32, e.id);
+            tried.count("identifiers given after a 23", refused);
+            let why = || format!("identifier {value} after a probe that got 23");
+            tried.hold(Clause::Dues, next || !refused, why);
+        }
+        book.refused |= number == 23;
     }
 
     fn sum(&mut self, book: &Book) {

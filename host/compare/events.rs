@@ -397,7 +397,7 @@ impl<'a> Scene<'a> {
             }
             PROBE => {
                 (e.now, e.len) = (self.instant(), self.length());
-                (e.span, e.id) = (self.due(), self.rng.pick(self.theme.draws));
+                (e.span, e.id) = (self.due(e.now), self.rng.pick(self.theme.draws));
             }
             ANSWER => {
                 (e.now, e.id) = (self.instant(), self.identifier());
@@ -502,7 +502,8 @@ impl<'a> Scene<'a> {
         } else if let Some(id) = waits_since(i) {
             (e.kind, e.now, e.id) = (ANSWER, self.instant(), id as u32);
         } else {
-            (e.kind, e.now, e.span) = (PROBE, self.instant(), self.due());
+            (e.kind, e.now) = (PROBE, self.instant());
+            e.span = self.due(e.now);
         }
         e
     }
@@ -537,10 +538,17 @@ impl<'a> Scene<'a> {
         self.now
     }
 
-    fn due(&mut self) -> u64 {
+    /// The due instant of a probe sent at an instant: at that or after it. One in eleven is just before
+    /// it, none at all, or by the clock, which may stand before or after it.
+    fn due(&mut self, at: u64) -> u64 {
         let (step, cap) = (self.rng.pick(self.theme.steps), self.settings[0]);
         let far = self.rng.pick(&[0, 1, step, 3, cap, cap / 2]);
-        self.now.saturating_add(far)
+        match self.rng.below(33) {
+            0 => at.saturating_sub(1),
+            1 => 0,
+            2 => self.now.saturating_add(far),
+            _ => at.saturating_add(far),
+        }
     }
 
     /// A distance at which some rule turns.

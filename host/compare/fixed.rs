@@ -41,6 +41,8 @@ fn main() -> Result<()> {
     let mut reach = Reach::default();
     let lists = listed::cases(&mut reach);
     reach.print();
+    let missing = reach.missing();
+    assert!(missing.is_empty(), "never reached: {missing:?}");
     for (what, count) in &picked.shown {
         eprintln!("  {what}: {count}");
     }

@@ -25,7 +25,7 @@ const EVENTS: usize = 100_000;
 const TURNS: usize = 20;
 
 /// The papers' lists that are examples: file, list, what it shows.
-const EXAMPLES: [(&str, &str, &str); 6] = [
+const EXAMPLES: [(&str, &str, &str); 7] = [
     ("first", "five lines", "Document 01's example."),
     (
         "refusals",
@@ -52,6 +52,32 @@ const EXAMPLES: [(&str, &str, &str); 6] = [
         "tiers and pins",
         "Pinned first, then the highest tier, then the fitting.",
     ),
+    (
+        "dues",
+        "dues behind",
+        "A logger whose due instants lie before its sends, and the same sends after its repair.",
+    ),
+];
+
+/// Notes in the words of an example: file, the event that one stands before, what it says.
+const NOTES: [(&str, usize, &str); 5] = [
+    (
+        "dues",
+        2,
+        "Before: the timeout in the due's place, a due 10 ms behind, no due at all. Each gets 23.",
+    ),
+    (
+        "dues",
+        5,
+        "Nothing was sent: the answer is to an unknown identifier (9), and nothing lapses.",
+    ),
+    (
+        "dues",
+        7,
+        "After: due 200 ms later. The identifiers are 7, 8 and 9: the refused ones took none.",
+    ),
+    ("dues", 10, "At its due instant the second lapses."),
+    ("dues", 13, "A due instant at the send itself is allowed."),
 ];
 
 fn main() -> Result<()> {
@@ -75,12 +101,23 @@ fn write(folder: &Path, name: &str, bytes: &[u8]) -> Result<()> {
 fn examples(folder: &Path) -> Result<()> {
     for (file, name, shows) in EXAMPLES {
         let bytes = paper(name).bytes;
-        let words = format!("# {shows}\n{}", wording::words(&bytes));
+        let words = format!("# {shows}\n{}", noted(file, &wording::words(&bytes)));
         assert_eq!(wording::file(&words).as_deref(), Ok(&bytes[..]), "{file}");
         write(folder, &format!("{file}.events"), &bytes)?;
         write(folder, &format!("{file}.txt"), words.as_bytes())?;
     }
     Ok(())
+}
+
+/// An example's words, a line for the settings and one for each event, with its notes.
+fn noted(file: &str, words: &str) -> String {
+    let mut all = String::new();
+    for (n, line) in words.lines().enumerate() {
+        let notes = NOTES.iter().filter(|note| (note.0, note.1) == (file, n));
+        all.extend(notes.map(|note| format!("# {}\n", note.2)));
+        all += &format!("{line}\n");
+    }
+    all
 }
 
 /// In turn every refusal that an event can bring, on a record with no path open, and very many events;

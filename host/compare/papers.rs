@@ -1,5 +1,6 @@
 //! Lists of events that document 01 names or that show one of its sentences alone: its five lines,
-//! its table's smallest examples, two conditions at once, a search to its end.
+//! its table's smallest examples, two conditions at once, a search to its end. Behind them those of
+//! document 02.
 
 use crate::events::{
     ANSWER, CHOOSE, CLOSE, FOLD, FRESH, HEAR, JUDGE, List, OPEN, POLL, PROBE, PROVE, SAMPLE,
@@ -35,6 +36,9 @@ pub fn lists() -> Vec<List> {
         ("32 samples", [0, 0, LONG - 1, 5], samples()),
         ("ETX at its limits", [SECOND; 4], limits()),
         ("long settings", [LONG - 1; 4], long()),
+        ("answered before", [0, SECOND, 0, 0], answered_before()),
+        ("due before sent", [SECOND; 4], before_sent()),
+        ("dues behind", [SECOND; 4], behind()),
     ];
     all.drain(..)
         .map(|(name, settings, events)| List {
@@ -148,11 +152,13 @@ fn five() -> Vec<Event> {
     vec![open(0, 100, 32), probe(0, 9, 7, 0), first, first, last]
 }
 
-/// The table's smallest examples, in its order, 12 to 14 and 16 being no event's.
+/// The table's smallest examples, in its order, 12 to 14 and 16 being no event's; 23 stands where a probe
+/// is tried for it, before 8.
 fn refusals() -> Vec<Event> {
     let mut all = vec![bare(CLOSE, 8), bare(CLOSE, 0)];
     all.extend([open(0, 100, 0), open(0, 100, 0), poll(0, 2)]);
     all.extend([prove(26), sample(0, 0, LONG), choose(0.5)]);
+    all.push(probe(5, 4, 7, 0));
     all.extend((0..9).map(|_| probe(0, 5, 7, 0)));
     all.extend([answer(0, 5, 0), seek(0, 0), bare(CLOSE, 0)]);
     all.extend([choose(1.0), bare(16, 0), bare(0, 0)]);
@@ -191,7 +197,7 @@ fn orders() -> Vec<Event> {
 /// Eight waiting, answers out of order, a sweep whose last four stay.
 fn eight() -> Vec<Event> {
     let mut all = vec![open(0, 100, 0)];
-    all.extend((0..9).map(|n| probe(n, 5, 7, 0)));
+    all.extend((0..9).map(|n| probe(n, 9, 7, 0)));
     all.extend([
         answer(5, 9, 0),
         answer(5, 9, 0),
@@ -457,7 +463,7 @@ fn long() -> Vec<Event> {
     let end = u64::MAX;
     let mut all = vec![
         open(0, 1000, 0),
-        probe(end - 10, 0, 7, 0),
+        probe(end - 10, end - 10, 7, 0),
         data(end, 0),
         poll(end, 0),
     ];
@@ -474,4 +480,49 @@ fn long() -> Vec<Event> {
     ]);
     all.extend([judge(end, LONG - 1), seek(end - 3, 0), seek(end, 0)]);
     all
+}
+
+/// An answer to an earlier probe judges nothing: the search probe stays out, and no other goes.
+fn answered_before() -> Vec<Event> {
+    let mut all = vec![open(0, 65_535, 0), prove(27)];
+    all.extend([probe(0, 9, 5, 0), answer(0, 5, 0)]);
+    let often = (0..13).chain([700]).map(|n| n * SECOND);
+    all.extend(often.flat_map(|now| [seek(now, 5), judge(now, 0)]));
+    all
+}
+
+/// A probe whose due instant lies before its now gets 23: after 5, before 8, and it takes no identifier.
+/// One due just then is sent.
+fn before_sent() -> Vec<Event> {
+    let on = |slot: u8| Event {
+        slot,
+        ..probe(5, 4, 7, 0)
+    };
+    let mut all = vec![open(0, 100, 0), probe(5, 4, 7, 65_536)];
+    all.extend([probe(5, 4, 7, 0), probe(5, 0, 7, 0)]);
+    all.extend((0..8).map(|_| probe(5, 5, 7, 0)));
+    all.extend([probe(5, 4, 7, 0), probe(5, 5, 7, 0), on(8), on(1)]);
+    all.push(poll(5, 0));
+    all
+}
+
+/// A logger whose due instants lie behind: the timeout of 200 ms in their place, 10 ms too early, none. Then
+/// the same sends after its repair: none of the refused took an identifier.
+fn behind() -> Vec<Event> {
+    let sent = |at: u64, due: u64| probe(at * MS, due * MS, 7, 100);
+    vec![
+        open(0, 1200, 0x29),
+        sent(5_000, 200),
+        sent(6_000, 5_990),
+        sent(7_000, 0),
+        answer(7_020 * MS, 7, 0),
+        poll(8_000 * MS, 0),
+        sent(15_000, 15_200),
+        answer(15_020 * MS, 7, 0),
+        sent(16_000, 16_200),
+        poll(16_200 * MS, 0),
+        sent(17_000, 17_200),
+        answer(17_020 * MS, 9, 0),
+        sent(18_000, 18_000),
+    ]
 }

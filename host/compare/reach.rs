@@ -2,7 +2,7 @@
 //! that the lists are not empty of it.
 
 use crate::calls::{DATA, IDS, LATE, RING, SAMPLES, SEEK, SPANS};
-use crate::events::{ANSWER, CHOOSE, HEAR, JUDGE, POLL, SAMPLE, SEARCH, SWEEP};
+use crate::events::{ANSWER, CHOOSE, HEAR, JUDGE, POLL, PROBE, SAMPLE, SEARCH, SWEEP};
 use oracle::proto::path::record::{Event, Mark, Record, Reply, SLOTS};
 use oracle::proto::path::script::Image;
 use std::collections::BTreeMap;
@@ -20,6 +20,8 @@ pub struct Reach {
     /// The instant of this list's event before, and the next tries that clearings set, by slot.
     now: u64,
     tries: [Option<u64>; SLOTS],
+    /// The last identifier's mark and the next one, by slot, before probes that just got 23.
+    behind: [Option<[u64; 2]>; SLOTS],
 }
 
 /// Images before and after an event on its slot.
@@ -54,6 +56,7 @@ impl Reach {
     pub fn list(&mut self, events: usize) {
         self.lists += 1;
         self.tries = [None; SLOTS];
+        self.behind = [None; SLOTS];
         self.long += usize::from(events >= 60);
         self.events += events;
     }
@@ -76,10 +79,13 @@ impl Reach {
         self.clock(e);
         if let (Some(before), Some(after)) = (before.image(slot), after.image(slot)) {
             let change = Change { before, after };
+            self.due(e, reply, &change.before);
             if reply.0 == 0 {
                 self.path(e, reply, &change);
             }
             self.refused(e, reply, &change);
+        } else {
+            self.behind[slot] = None;
         }
     }
 
@@ -111,20 +117,61 @@ impl Reach {
         }
     }
 
-    /// What was never reached: kinds, refusals 1 to 11, and what is counted by name.
-    #[allow(dead_code)]
+    /// What was never reached: kinds, refusals 1 to 11 and 23, and what is counted by name.
     pub fn missing(&self) -> Vec<String> {
         let kind = |kind: &u8| self.kinds.get(kind).is_none_or(|counts| counts.0 == 0);
         let number = |number: &u64| !self.numbers.contains_key(number);
         let kinds = (1..=15).filter(kind).map(|kind| format!("kind {kind}"));
-        let numbers = (0..=11).filter(number).map(|n| format!("number {n}"));
+        let numbers = (0..=11).chain([23]).filter(number);
+        let numbers = numbers.map(|n| format!("number {n}"));
+        kinds.chain(numbers).chain(self.unseen()).collect()
+    }
+
+    /// What is counted by name and was never seen.
+    pub fn unseen(&self) -> impl Iterator<Item = String> {
         let seen = self.seen.iter().filter(|(_, count)| **count == 0);
-        let names = seen.map(|(what, _)| what.to_string());
-        kinds.chain(numbers).chain(names).collect()
+        seen.map(|(what, _)| what.to_string())
     }
 
     fn see(&mut self, what: &'static str, on: bool) {
         *self.seen.entry(what).or_default() += u64::from(on);
+    }
+
+    /// What a probe on an open path shows of its due instant. One that is too long as well no file can hold:
+    /// of lists that have none, that is not counted.
+    pub fn due(&mut self, e: &Event, (number, value): Reply, before: &Image) {
+        let slot = usize::from(e.slot);
+        let behind = self.behind[slot].take();
+        if e.kind != PROBE {
+            return;
+        }
+        if number == 23 {
+            self.behind[slot] = behind.or(Some([before[IDS], before[IDS + 1]]));
+        }
+        let eight = marked(before, RING, LATE, 5) == 8;
+        let early = e.span < e.now;
+        if e.len > 65_535 {
+            return self.see(
+                "probe due before its now, over-long too",
+                early && number == 5,
+            );
+        }
+        self.see("probe due before its now", number == 23 && !eight);
+        self.see(
+            "probe due before its now, with eight waiting",
+            number == 23 && eight,
+        );
+        self.see(
+            "probe due one before its now",
+            number == 23 && e.span.checked_add(1) == Some(e.now),
+        );
+        self.see("probe with a now and no due", number == 23 && e.span == 0);
+        self.see("probe due at its now", number == 0 && e.span == e.now);
+        let next = behind.map(|[mark, next]| if mark == 1 { next } else { e.id.into() });
+        self.see(
+            "probe after one refused with 23, which took no identifier",
+            number == 0 && next == Some(value),
+        );
     }
 
     /// What an accepted event did to its path.
@@ -270,6 +317,11 @@ impl Reach {
         for (number, count) in &self.numbers {
             eprintln!("  number {number}: {count}");
         }
+        self.print_seen();
+    }
+
+    /// Print what is counted by name.
+    pub fn print_seen(&self) {
         for (what, count) in &self.seen {
             eprintln!("  {what}: {count}");
         }

@@ -5,12 +5,13 @@
 use crate::damage::damaged;
 use crate::encoder::{encoded, normal, normal_rows, slot_rows};
 use crate::clib::Reply;
-use crate::events::{CHOOSE, List, THEMES, words_of};
+use crate::events::{CHOOSE, List, PROBE, THEMES, words_of};
 use crate::filed::Filed;
 use crate::handed::{Handed, Sixes};
 use crate::kept::{Guarded, Kept, reply_in};
 use crate::papers;
 use crate::random::Rng;
+use crate::reach::Reach;
 use crate::strange::{self, Reached};
 use oracle::proto::path::eventfile::{Next, SETTINGS, record_at};
 use oracle::proto::path::record::{Event, Record, SLOTS};
@@ -45,10 +46,12 @@ pub struct Tally {
     standings: u64,
     few: u64,
     strange: Reached,
+    /// What probes show of their due instants.
+    dues: Reach,
 }
 
 impl Tally {
-    fn add(&mut self, other: &Self) {
+    fn add(&mut self, other: Self) {
         self.lists += other.lists;
         self.events += other.events;
         self.handed += other.handed;
@@ -60,6 +63,7 @@ impl Tally {
         self.standings += other.standings;
         self.few += other.few;
         self.strange.add(&other.strange);
+        self.dues.add(other.dues);
     }
 
     /// Calls of ours with an event.
@@ -91,13 +95,19 @@ pub fn compare(events: u64) {
         let threads: Vec<_> = (0..THREADS).map(|_| scope.spawn(work)).collect();
         let mut all = Tally::default();
         for thread in threads {
-            all.add(&thread.join().expect("a thread ends"));
+            all.add(thread.join().expect("a thread ends"));
         }
         all
     });
     print(&tally);
     tally.sixes.print();
     tally.strange.print();
+    tally.dues.print_seen();
+    let unseen: Vec<_> = tally.dues.unseen().collect();
+    if !unseen.is_empty() {
+        println!("rows: never reached: {unseen:?}");
+        std::process::exit(1);
+    }
     println!(
         "no difference in rows; {:.1} seconds",
         start.elapsed().as_secs_f64()
@@ -207,6 +217,7 @@ impl Sides {
         mut handed: Option<Handed>,
     ) -> Result<(), String> {
         let same = list.events == filed.events;
+        tally.dues.list(list.events.len());
         for (n, event) in list.events.iter().enumerate() {
             if let Some(handed) = &mut handed {
                 self.hand(handed.next());
@@ -257,12 +268,19 @@ impl Sides {
 
     /// The Rust's record after an event, and what ours answered: the reply, the words, the standings.
     fn event(&mut self, tally: &mut Tally, event: &Event, ours: Reply) -> Result<(), String> {
+        let slot = usize::from(event.slot);
+        let probed = match event.kind == PROBE && slot < SLOTS {
+            true => self.record.image(slot),
+            false => None,
+        };
         let rust = self.record.event(event);
+        if let Some(before) = probed {
+            tally.dues.due(event, rust, &before);
+        }
         if (ours.number, ours.value) != rust {
             return Err(format!("ours {ours:?}, the Rust's {rust:?}"));
         }
         // A refused event leaves every word: those of before are compared.
-        let slot = usize::from(event.slot);
         if rust.0 == 0 && slot < SLOTS {
             self.words.slots[slot] = slot_rows(&self.record, slot);
         }
@@ -307,6 +325,7 @@ impl Sides {
     /// The records of a file that may be damaged, to the first that can't be read: it changes nothing.
     fn file(&mut self, tally: &mut Tally, file: &[u8]) -> Result<(), String> {
         let mut rest = file.get(SETTINGS..).unwrap_or_default();
+        tally.dues.list(0);
         loop {
             let taken = self.ours.kept.bytes(rest);
             let (event, size) = match record_at(rest) {

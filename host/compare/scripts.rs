@@ -25,6 +25,9 @@ const CALLED: usize = OPS.len() + 1;
 /// Refusals that the scripts must reach: of a path that is changed through a reference, those of its two calls.
 const MUST: [(&str, u64); 3] = [("send_ref", 5), ("send_ref", 8), ("answer_ref", 9)];
 
+/// The calls that send a probe at an instant, due at another.
+const SENDS: [&str; 3] = ["send", "send_ref", "seek_ring"];
+
 /// What was compared.
 pub struct Scripts {
     pub scripts: u64,
@@ -33,6 +36,8 @@ pub struct Scripts {
     pub refused: u64,
     /// For each call's number: how often, and how often refused by which number.
     pub by_call: [(u64, BTreeMap<u64, u64>); CALLED],
+    /// Probes that are due before their instant and sent all the same: 23 is the record's.
+    pub behind: u64,
     /// Scripts by flavour.
     pub flavours: Vec<(&'static str, u64, u64)>,
 }
@@ -46,6 +51,7 @@ impl Scripts {
             runs: 0,
             refused: 0,
             by_call: [const { (0, BTreeMap::new()) }; CALLED],
+            behind: 0,
             flavours: Vec::new(),
         };
         for flavour in &FLAVOURS {
@@ -56,6 +62,10 @@ impl Scripts {
                 println!("{name}: refusal {number} is never reached");
                 std::process::exit(1);
             }
+        }
+        if all.behind == 0 {
+            println!("no probe that is due before its instant is sent");
+            std::process::exit(1);
         }
         all
     }
@@ -113,6 +123,8 @@ impl Scripts {
         *calls += 1;
         if reply[0] != 0 {
             *refused.entry(reply[0]).or_default() += 1;
+        } else if SENDS.contains(&name_of(call[0] as usize)) && call[2] < call[1] {
+            self.behind += 1;
         }
     }
 

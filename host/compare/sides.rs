@@ -59,6 +59,8 @@ fn compare() {
         let said: Vec<_> = refused.iter().map(|(no, n)| format!("{no}: {n}")).collect();
         println!("    {} {calls} ({})", name_of(n), said.join(", "));
     }
+    let behind = scripts.behind;
+    println!("  probes sent that are due before their instant: {behind}");
     #[cfg(choice)]
     fields::Fields::run().print();
     println!(

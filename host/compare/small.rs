@@ -2,7 +2,7 @@
 //! as its two parts behind theirs, u32 each: a small file and its lines, or a list of events in words and
 //! its standings.
 
-use crate::events::{CHOOSE, THEMES, fitted};
+use crate::events::{CHOOSE, PROBE, THEMES, fitted};
 use crate::filed::{Filed, put_record};
 use crate::papers;
 use oracle::proto::path::eventfile::{fields_of, lines_of};
@@ -36,6 +36,7 @@ pub fn cases() -> Vec<[Vec<u8>; 2]> {
     let mut all = settings_cases();
     all.extend(refusal_cases());
     all.extend(record_cases());
+    all.extend(probe_cases());
     for n in 0..LISTS {
         let list = THEMES[n % THEMES.len()].filed(SEED + n as u64, 2 + n % 30);
         all.push(Filed::of(&list, n as u64).bytes);
@@ -103,5 +104,22 @@ fn record_cases() -> Vec<Vec<u8>> {
             all.push(with(&other, false));
         }
     }
+    all
+}
+
+/// A probe with each of its fields or without it, after an open: at 5, due 4, and where both stand due 5 too.
+/// With an instant and no due instant it gets 23. The identifier of the probe behind it shows whether it took one.
+fn probe_cases() -> Vec<Vec<u8>> {
+    let list = paper("five lines");
+    let case = |map: u64, due: u64| {
+        let with = |bit: u64, number: u64| (map >> bit & 1) * number;
+        let fields = [with(0, 5), with(1, due), with(2, 7), with(3, 100), 0, 0];
+        let mut file = list.beginning(1).to_vec();
+        put_record(&Event::of(PROBE, 0, fields), 0, &mut file);
+        put_record(&Event::of(PROBE, 0, [5, 5, 70, 0, 0, 0]), 0, &mut file);
+        file
+    };
+    let mut all: Vec<_> = (0..16).map(|map| case(map, 4)).collect();
+    all.extend([3, 7, 11, 15].map(|map| case(map, 5)));
     all
 }

@@ -4,7 +4,7 @@
 use crate::encoder::{
     ARRIVALS, CLOCKS, FELL, FLAG, IDS, MARKS, SEARCH, SPANS, STOP, TRIPS, USED, encoded,
 };
-use crate::events::List;
+use crate::events::{List, PROBE};
 use crate::kept::{Kept, ROWS};
 use crate::random::Rng;
 use oracle::proto::path::record::{Event, Record, SLOTS};
@@ -21,6 +21,8 @@ const SETTINGS: u64 = 4;
 const MOVED: u64 = 20;
 const NAMED: u64 = 40;
 const TIMED: u64 = 30;
+/// Probes among these, in a hundred, that are due beside it too.
+const DUE: u64 = 60;
 /// Numbers beside which identifiers are taken.
 const NAMES: [u64; 5] = [0, 7, 1_000_000, 1 << 31, (1 << 32) - 1];
 
@@ -150,6 +152,10 @@ pub fn aimed(mut event: Event, kept: &Kept, rng: &mut Rng) -> Event {
         let row = rng.below(ROWS as u64) as usize;
         let k = rng.below(4) as usize;
         event.now = rng.near(rows[row][k]);
+        // A probe there is due beside it, or wherever it was: with most words that is before it.
+        if event.kind == PROBE && rng.percent(DUE) {
+            event.span = rng.near(event.now);
+        }
     }
     event
 }
@@ -159,7 +165,7 @@ pub fn aimed(mut event: Event, kept: &Kept, rng: &mut Rng) -> Event {
 #[derive(Default)]
 pub struct Reached {
     kinds: [u64; 16],
-    numbers: [u64; 16],
+    numbers: [u64; 24],
     uncoded: u64,
 }
 
@@ -184,7 +190,7 @@ impl Reached {
         self.kinds.iter().chain(&self.numbers).sum()
     }
 
-    /// Say what they are; no accepted event of a kind, or none of refusals 1 to 11, ends the program.
+    /// Say what they are; no accepted event of a kind, or none of refusals 1 to 11 and 23, ends the program.
     pub fn print(&self) {
         let (kinds, numbers) = (&self.kinds[1..], &self.numbers[1..12]);
         println!("  on words that no record wrote: accepted, by kind from 1 on: {kinds:?}");
@@ -193,10 +199,10 @@ impl Reached {
             self.uncoded
         );
         println!(
-            "  refused, by number from 1 on: {numbers:?}, and {} with 15",
-            self.numbers[15]
+            "  refused, by number from 1 on: {numbers:?}, {} with 15 and {} with 23",
+            self.numbers[15], self.numbers[23]
         );
-        if kinds.contains(&0) || numbers.contains(&0) {
+        if kinds.contains(&0) || numbers.contains(&0) || self.numbers[23] == 0 {
             println!("rows: a kind or a refusal that no call on strange words came to");
             std::process::exit(1);
         }

@@ -1,5 +1,6 @@
 //! Document 01's peer record over the unchanged `Liveness` and `choose`: the reference of the
-//! fifteen events. Written from "Peer record" and its table alone; nothing of it is the Rust's.
+//! fifteen events. Written from "Peer record" and its table alone; nothing of it is the Rust's. 23, a
+//! probe whose due instant lies before its now, is document 02's (T-09).
 
 use super::Role;
 use super::live::{Answer, Liveness};
@@ -149,7 +150,7 @@ impl Record {
             .map_or_else(|no| (no, 0), |value| (0, value))
     }
 
-    /// 15; then choose, which reads no slot; then 1, 2 or 3, 4, 5, 6 and the work.
+    /// 15; then choose, which reads no slot; then 1, 2 or 3, 4, 5, 6, 23 and the work.
     fn answer_to(&mut self, e: &Event) -> Answered {
         match e.kind {
             1..=14 => {}
@@ -198,6 +199,10 @@ impl Record {
         match e.kind {
             2 => {
                 let len = length(e.len.into())?;
+                // The Rust's `send` takes any due instant: 23 is tried before it, and so before its 8.
+                if e.span < e.now {
+                    return Err(23);
+                }
                 let id = live.send(e.now, e.span, len, || e.id);
                 return id.map(u64::from).ok_or(8);
             }

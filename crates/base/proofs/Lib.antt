@@ -8,3 +8,4 @@ pub mod MarkedLaws
 pub mod BookLaws
 pub mod SerialLaws
 pub mod TimeLaws
+pub mod RefusalLaws

@@ -1,4 +1,4 @@
--- The refusal numbers (document 01, "Peer record", the table): the first that applies is given.
+-- The refusal numbers (document 01, "Peer record", the table; document 02, "Errors"): the first that applies is given.
 use Prim.Native.Nat.{ℕ}
 use Rattle.base.specs.declared.types.Refusal.{Refusal}
 use Rattle.base.specs.declared.types.Refusal.the-variants.{
@@ -18,6 +18,7 @@ use Rattle.base.specs.declared.types.Refusal.the-variants.{
   Map,
   Kind,
   Lent,
+  Due,
 }
 
 abbrev pub refusalNumber : Refusal → ℕ
@@ -37,3 +38,4 @@ refusalNumber Cut = 13
 refusalNumber Map = 14
 refusalNumber Kind = 15
 refusalNumber Lent = 16
+refusalNumber Due = 23

@@ -20,7 +20,8 @@ pub enum MaybeLen {
     Some(u16),
 }
 
-// Document 01's refusals, in the order of its table; `refusalNumber` in specs/Refusals.antt has their numbers.
+// Document 01's refusals, in the order of its table, then document 02's; `refusalNumber` in specs/Refusals.antt has
+// their numbers.
 pub enum Refusal {
     Slot,
     Empty,
@@ -38,10 +39,11 @@ pub enum Refusal {
     Map,
     Kind,
     Lent,
+    Due,
 }
 
 impl Refusal {
-    // The number of a refusal in document 01's table.
+    // The number of a refusal in the documents.
     pub fn number(self) -> u64
         ensures { λ r. ⌜ r ≡ refusalNumber self ⌝ }
     {
@@ -62,6 +64,7 @@ impl Refusal {
             Refusal::Map => 14,
             Refusal::Kind => 15,
             Refusal::Lent => 16,
+            Refusal::Due => 23,
         }
     }
 }

@@ -3,31 +3,15 @@
 use Prim.Native.Nat.{ℕ}
 use mathlib.Core.Path.{_≡_, refl, sym, ap, _∙_}
 use mathlib.Core.Bool.{Bool, true, false}
-use lib.Dec.{leb, eqb}
+use lib.Dec.{leb}
 use lib.Ieee.{Float, isNan, ofBits, toBits}
 use mathlib.Core.List.{List, [], _∷_}
 use borrow.Author.Tests.{eq-eqb, ne-eqb}
 use lib.ListN.{length}
 use Rattle.base.specs.Refusals.{refusalNumber}
 use Rattle.base.specs.declared.types.Refusal.{Refusal}
-use Rattle.base.specs.declared.types.Refusal.the-variants.{
-  Slot,
-  Empty,
-  Held,
-  Flag,
-  Length,
-  Duration,
-  Margin,
-  Full,
-  Unknown,
-  NoSize,
-  NoPath,
-  Index,
-  Cut,
-  Map,
-  Kind,
-  Lent,
-}
+use Rattle.base.specs.declared.types.Refusal.the-variants.{Cut, Lent}
+use Rattle.base.proofs.RefusalLaws.{number-some}
 use Rattle.octets.specs.Octets.{le, wordsOf, over}
 use Rattle.octets.proofs.Fill.{flat-length, le-length}
 use Rattle.select.specs.Answers.{bestNumber}
@@ -40,25 +24,6 @@ use Rattle.rivalrows.specs.Rows.{fieldIn}
 use Rattle.fields.specs.Fields.{fieldLen, rowsOf, fieldOf}
 use Rattle.c_reply.specs.declared.Reply.{Reply}
 use Rattle.c_choice.specs.Choice.{chosenReply, wordsReply, chooseReply, bestWords, lentNumber, bestReply, bestOut}
-
--- no refusal has the number 0
-refusal-some : (why : Refusal) → eqb (refusalNumber why) 0 ≡ false
-refusal-some Slot = refl
-refusal-some Empty = refl
-refusal-some Held = refl
-refusal-some Flag = refl
-refusal-some Length = refl
-refusal-some Duration = refl
-refusal-some Margin = refl
-refusal-some Full = refl
-refusal-some Unknown = refl
-refusal-some NoSize = refl
-refusal-some NoPath = refl
-refusal-some Index = refl
-refusal-some Cut = refl
-refusal-some Map = refl
-refusal-some Kind = refl
-refusal-some Lent = refl
 
 module _ (s l : List ℕ) where
   pub best-cut : {n : ℕ} → (length s ≡ fieldLen → ⊥) → n ≡ refusalNumber Cut
@@ -84,7 +49,7 @@ module _ (s l : List ℕ) where
   best-not {a} {why} {n} h q z b =
       let e = eq-eqb (length s) fieldLen h in
       let k : bestOf (fieldOf s) ≡ best.Refused why = sym q ∙ z in
-      (rw (e, k, refusal-some why) b, rw (e, k, refusal-some why))
+      (rw (e, k, number-some why) b, rw (e, k, number-some why))
 
 -- no score is two zeros
 pub zero-words : {a : BestAnswer} → a ≡ best.Unscored → (0 ∷ 0 ∷ []) ≡ bestWords a

@@ -2,24 +2,15 @@
 -- Assumes nothing.
 use Prim.Native.Nat.{ℕ, suc, _+_, _*_, _-_, _/_, _%_, _<_, _^_}
 use mathlib.Core.Path.{_≡_, ap, sym, _∙_, subst}
-use mathlib.Core.Bool.{Bool, true, false}
+use mathlib.Core.Bool.{Bool}
 use native.Mathlib.Omega.{arith}
 use native.Mathlib.Nat.{pow-suc, mul-assoc, one-mul, mod-lt}
 use native.Mathlib.Numerals.{one-add}
 use lib.Arith.{mod-mul, digits-lt}
 use lib.Pow.{pow-pos, pow-add, shr-shr, shr-lt, shl-exact}
 use Rattle.base.specs.Seq.{flagOf}
+use Rattle.base.proofs.Cases.{flag-small}
 use Rattle.cells.specs.Cells.{oddIn, bitIn, withBit}
-
--- a flag is below 2
-pub flag-small : (b : Bool) → flagOf b < 2
-flag-small true = omega arith
-flag-small false = omega arith
-
--- a flag's number is odd where it is set
-pub odd-flag : (x : ℕ) (b : Bool) → x % 2 ≡ flagOf b → oddIn x ≡ b
-odd-flag x true e = rw e
-odd-flag x false e = rw e
 
 -- the lowest bit
 pub bit-zero : (m : ℕ) → bitIn m 0 ≡ oddIn m

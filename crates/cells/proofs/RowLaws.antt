@@ -7,9 +7,9 @@ use native.Mathlib.Omega.{arith}
 use native.Mathlib.Nat.{mod-eq-of-lt}
 use borrow.Author.Tests.{ne-eqb, le-leb, lt-leb}
 use lib.Dec.{T, eqb, leb, ltb}
-use lib.Ieee.{Float, nan, inf, fin, binary64, fits, ofBits, isNan}
-use lib.Ieee.Bits.{ofBits-toBits}
+use lib.Ieee.{Float, binary64, fits}
 use Rattle.base.specs.Seq.{flagOf}
+use Rattle.base.proofs.Cases.{flag-small, flag-bit}
 use Rattle.base.specs.declared.types.MaybeId.the-variants as id
 use Rattle.base.specs.declared.types.MaybeLen.the-variants as len
 use Rattle.base.specs.declared.types.MaybeTime.{MaybeTime}
@@ -24,6 +24,7 @@ use Rattle.stop.specs.declared.types.MaybeStop.the-variants as stop
 use Rattle.live.specs.declared.types.Traffic.{Traffic}
 use Rattle.base.specs.Missing.{timeTag, timeOrZero}
 use Rattle.total.specs.Patterns.{etxBits}
+use Rattle.total.proofs.PlaceLaws.{float-again}
 use Rattle.select.specs.declared.types.Role.{Role}
 use Rattle.select.specs.declared.types.Role.the-variants as role
 use Rattle.select.specs.Media.{roleOf}
@@ -161,22 +162,10 @@ halves-made n {a} {b} {x} {y} e f =
     let s : (a + b * 2 ^ 32) / 2 ^ 32 ≡ b = omega arith in
     (omega arith, omega arith, ap (λ (z : ℕ). z % n) s ∙ mod-eq-of-lt (f .1) ∙ r)
 
--- the quiet NaN's pattern
-nan-read : ofBits binary64 0x7ff8_0000_0000_0000 ≡ nan
-unfolding ofBits
-nan-read = refl
-
--- the pattern of an ETX says it
-etx-read : (x : Float) → T (fits binary64 x) → ofBits binary64 (etxBits x) ≡ x
-unfolding isNan
-etx-read nan h = nan-read
-etx-read (inf s) h = ofBits-toBits binary64 (inf s) h
-etx-read (fin s m k) h = ofBits-toBits binary64 (fin s m k) h
-
 -- the ETX
 pub etx-says : (x : Float) → T (fits binary64 x) → etxIn (etxBits x) ≡ x
 unfolding etxIn
-etx-says x h = etx-read x h
+etx-says x h = float-again x h
 
 -- the ETX's word
 pub etx-made : {b : ℕ} (x : Float) → T (fits binary64 x) → b ≡ etxBits x → (b ≡ etxBits x) × (etxIn b ≡ x)
@@ -188,11 +177,6 @@ unfolding spanIn spanRow
 span-says s =
     let f = flag-same (s .used) in
     λ k. record { from = s .from; to = s .to; rtt = s .rtt; used = f k }
-
--- a flag is below 2
-flag-small : (b : Bool) → flagOf b < 2
-flag-small true = omega arith
-flag-small false = omega arith
 
 -- a role's number is below 4
 role-small : (r : Role) → roleBits r < 4
@@ -207,11 +191,6 @@ role-same role.Never x e = rw e
 role-same role.Backup x e = rw e
 role-same role.Normal x e = rw e
 role-same role.Preferred x e = rw e
-
--- a flag by its bit
-bit-same : (b : Bool) (x : ℕ) → x ≡ flagOf b → eqb x 1 ≡ b
-bit-same true x e = rw e
-bit-same false x e = rw e
 
 -- the parts of an open's flags
 record Parts (x m n a b c : ℕ) : Type 0 where
@@ -239,9 +218,9 @@ unfolding labelFrom
 label-flags l w f =
     let p = parts (flagBits l) _ _ _ _ _ refl (medium-small (l .medium)) (role-small (l .role)) (flag-small (l .pinned))
     (flag-small (l .fits)) (flag-small (l .preferred)) in
-    let a = bit-same (l .pinned) _ (p .pinned) in
-    let b = bit-same (l .fits) _ (p .fits) in
-    let c = bit-same (l .preferred) _ (p .preferred) in
+    let a = flag-bit (l .pinned) _ (p .pinned) in
+    let b = flag-bit (l .fits) _ (p .fits) in
+    let c = flag-bit (l .preferred) _ (p .preferred) in
     let m = medium-same (l .medium) _ (p .medium) in
     let r = role-same (l .role) _ (p .role) in
     λ k. record { full = f k; pinned = a k; fits = b k; preferred = c k; medium = m k; role = r k }
@@ -265,7 +244,7 @@ label-made on l {u} {n} {x} e f g =
     let w : ℕ = n + 65536 * u + 131072 * x in
     let m = slot-marked w n u x refl (f .1) (e .1) in (
       (λ k. f .0 k + 65536 * e .0 k + 131072 * g k),
-      bit-same on (w / 65536 % 2) (m .used ∙ e .0),
+      flag-bit on (w / 65536 % 2) (m .used ∙ e .0),
       ap (labelFrom w) (m .flags ∙ g) ∙ label-flags l w (m .full ∙ f .0),
     )
 

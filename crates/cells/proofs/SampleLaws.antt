@@ -8,11 +8,12 @@ use native.Mathlib.Omega.{arith}
 use lib.Dec.{eqb}
 use lib.ListN.{length, getD, set}
 use Rattle.base.specs.Seq.{flagOf}
+use Rattle.base.proofs.Cases.{flag-small, flag-bit}
 use Rattle.rtt.specs.Samples.{noSample}
 use Rattle.rtt.specs.declared.types.Sample.{Sample}
 use Rattle.cells.specs.Cells.{withHalf, oddIn, bitIn, withBit, sampleIn, samplesFrom}
 use Rattle.cells.specs.Code.{sampleRows, sampleBits}
-use Rattle.cells.proofs.BitLaws.{flag-small, odd-flag, bit-zero, bit-suc, with-zero, with-suc}
+use Rattle.cells.proofs.BitLaws.{bit-zero, bit-suc, with-zero, with-suc}
 
 -- the second of a row's two
 abbrev pub isLast : ℕ → Bool
@@ -78,12 +79,12 @@ pub samples-set : (m : ℕ) (l : List (List ℕ)) (i : ℕ) (s : Sample) → i <
 samples-set m [] i s h = absurd (omega arith)
 samples-set m (r ∷ l) zero s h =
     let w = lows-zero m (s .used) _ _ (with-zero m (s .used)) refl (flag-small (s .used)) in
-    λ j. record { at = s .at; rtt = s .rtt; used = odd-flag _ (s .used) (w .first) j }
+    λ j. record { at = s .at; rtt = s .rtt; used = flag-bit (s .used) _ (w .first) j }
     ∷ sampleIn r true (eqb (w .second j) 1) ∷ samplesFrom (w .rest j) l
 samples-set m (r ∷ l) (suc zero) s h =
     let w = lows-one m _ _ _ (with-suc m 0 (s .used)) (with-zero (m / 2) (s .used)) (flag-small (s .used)) in
     λ j. sampleIn r false (eqb (w .first j) 1)
-    ∷ record { at = s .at; rtt = s .rtt; used = odd-flag _ (s .used) (w .second) j } ∷ samplesFrom (w .rest j) l
+    ∷ record { at = s .at; rtt = s .rtt; used = flag-bit (s .used) _ (w .second) j } ∷ samplesFrom (w .rest j) l
 samples-set m (r ∷ l) (suc (suc i)) s h =
     let w = lows-more m _ _ _ (with-suc m (suc i) (s .used)) (with-suc (m / 2) i (s .used)) in
     let e : m / 2 / 2 ≡ m / 4 = omega arith in

@@ -1,8 +1,8 @@
 -- What the steps of the choice find: the first by score, by medium and by round trip, each by the least of its keys.
 -- Assumes nothing.
-use Prim.Native.Nat.{ℕ, zero, suc, _+_, _%_, _<_, _≤_}
+use Prim.Native.Nat.{ℕ, _+_, _%_, _<_, _≤_}
 use mathlib.Core.Path.{_≡_, refl, ap, sym, _∙_}
-use mathlib.Core.Bool.{Bool, true, false, not, cond, _&&_, _||_}
+use mathlib.Core.Bool.{Bool, true, false, not, _&&_, _||_}
 use mathlib.Core.List.{List, [], _∷_, map}
 use native.Mathlib.Omega.{arith}
 use borrow.Author.Tests.{lt-ltb, le-ltb, lt-leb, eq-eqb, ne-eqb, leb-false, ltb-true, ltb-false, eqb-true}
@@ -30,6 +30,7 @@ use Rattle.select.specs.Choice.{
   quickest,
   amongScored,
 }
+use Rattle.select.proofs.ChoiceLaws.{placed-at}
 use Rattle.select.specs.declared.types.Medium.{Medium}
 use Rattle.select.specs.declared.types.Medium.the-variants as medium
 use Rattle.select.specs.declared.types.Rival.{Rival}
@@ -70,17 +71,6 @@ both : {x y : Bool} → x ≡ true → y ≡ true → (x && y) ≡ true
 both a b = λ i. a i && b i
 
 -- ---- places
-
-placed-at : (l : List Rival) (n j : ℕ) → placed n l ≡ true → j < length l → atPlace (n + j) (getD l j noRival) ≡ true
-placed-at [] n j e h = absurd (omega arith)
-placed-at (r ∷ l) n zero e h =
-    let k : n + 0 ≡ n = omega arith in
-    on-flag (atPlace n r) (λ q. rw k q) (λ q. never e (ap (λ (b : Bool). cond b (placed (suc n) l) false) q))
-placed-at (r ∷ l) n (suc j) e h =
-    let k : n + suc j ≡ suc n + j = omega arith in
-    on-flag (atPlace n r)
-    (λ q. rw k (placed-at l (suc n) j (sym (ap (λ (b : Bool). cond b (placed (suc n) l) false) q) ∙ e) (omega arith)))
-    (λ q. never e (ap (λ (b : Bool). cond b (placed (suc n) l) false) q))
 
 pub index-at : (l : List Rival) (j : ℕ) → placed 0 l ≡ true → j < length l → getD l j noRival .held ≡ true
     → getD l j noRival .index ≡ j

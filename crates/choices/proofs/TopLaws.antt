@@ -10,7 +10,7 @@ use lib.Dec.{ltb, leb, eqb}
 use lib.ListN.{length, getD, length-map}
 use Rattle.base.specs.Seq.{flagOf, every, keep}
 use Rattle.base.specs.First.{unbeaten}
-use Rattle.base.proofs.Cases.{on-flag, on-order, never}
+use Rattle.base.proofs.Cases.{on-flag, on-order, flag-small, never}
 use Rattle.base.proofs.KeepLaws.{keep-keep, keep-same, keep-same-in, keep-all}
 use Rattle.base.proofs.ScanLaws.{every-keep-at, every-keep-of, every-at}
 use Rattle.select.specs.Rivals.{noRival, byTier}
@@ -41,10 +41,6 @@ pub record Highest (l : List Rival) (top : ℕ) : Type 0 where
   pub there : (k : ℕ) × Stands l top k
 
 -- ---- flags
-
-flag-most : (b : Bool) → flagOf b ≤ 1
-flag-most true = omega arith
-flag-most false = omega arith
 
 flag-same : (a b : Bool) → flagOf a ≡ flagOf b → a ≡ b
 flag-same true true e = refl
@@ -150,9 +146,9 @@ rank-same a b t u f g h k =
     on-flag (eqb (flagOf a * 512 + t * 2 + flagOf f) (flagOf b * 512 + u * 2 + flagOf g))
     (λ e.
     let r : flagOf a * 512 + t * 2 + flagOf f ≡ flagOf b * 512 + u * 2 + flagOf g = eqb-true _ _ e in
-    let p : flagOf a ≡ flagOf b = omega (arith, r, flag-most a, flag-most b, flag-most f, flag-most g) in
-    let s : t ≡ u = omega (arith, r, flag-most a, flag-most b, flag-most f, flag-most g) in
-    let q : flagOf f ≡ flagOf g = omega (arith, r, flag-most a, flag-most b, flag-most f, flag-most g) in
+    let p : flagOf a ≡ flagOf b = omega (arith, r, flag-small a, flag-small b, flag-small f, flag-small g) in
+    let s : t ≡ u = omega (arith, r, flag-small a, flag-small b, flag-small f, flag-small g) in
+    let q : flagOf f ≡ flagOf g = omega (arith, r, flag-small a, flag-small b, flag-small f, flag-small g) in
     both
     (both (ap (λ (z : Bool). Bool·beq z b) (flag-same a b p) ∙ beq-self b) (eq-eqb t u s))
     (ap (λ (z : Bool). Bool·beq z g) (flag-same f g q) ∙ beq-self g)
@@ -208,7 +204,7 @@ module _ (l : List Rival) (x : Rival) (top : ℕ) (i : In x (rivalsOf l)) (e : h
       let a : flagOf (y .pinned) ≡ 1 = ap flagOf p in
       let b : flagOf (x .pinned) ≡ 0 = ap flagOf h in
       let d : heightOf y ≤ top = leb-true (heightOf y) top k in
-      absurd (omega (arith, flag-most (x .fits), e)))
+      absurd (omega (arith, flag-small (x .fits), e)))
       (λ p. ap not p))
       (rivalsOf l)
       o
@@ -224,7 +220,7 @@ module _ (l : List Rival) (x : Rival) (top : ℕ) (i : In x (rivalsOf l)) (e : h
       (λ p.
       let a : flagOf (y .pinned) ≡ flagOf (x .pinned) = ap flagOf (beq-true (y .pinned) (x .pinned) p) in
       let d : heightOf y ≤ top = leb-true (heightOf y) top k in
-      let b : y .tier ≤ x .tier = omega (arith, flag-most (x .fits), e) in
+      let b : y .tier ≤ x .tier = omega (arith, flag-small (x .fits), e) in
       ap (λ (t : Bool). not t || leb (y .tier) (x .tier)) p ∙ le-leb (y .tier) (x .tier) b)
       (λ p. ap (λ (t : Bool). not t || leb (y .tier) (x .tier)) p))
       (rivalsOf l)
@@ -310,7 +306,7 @@ ranked-high l top t h = found (h .there)
 -- ---- by the least key
 
 height-small : (r : Rival) → r .tier < 256 → heightOf r ≤ 1023
-height-small r n = omega (arith, flag-most (r .pinned), flag-most (r .fits))
+height-small r n = omega (arith, flag-small (r .pinned), flag-small (r .fits))
 
 key-held : (r : Rival) → r .held ≡ true → rankKey r ≡ 1024 - heightOf r
 unfolding rankKey

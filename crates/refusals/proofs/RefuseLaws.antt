@@ -9,7 +9,7 @@ use lib.ListN.{take, drop}
 use Rattle.base.proofs.Cases.{on-flag}
 use Rattle.base.specs.Limits.{isOverlong, isUndersize, isEndless}
 use Rattle.base.specs.declared.types.Refusal.{Refusal}
-use Rattle.base.specs.declared.types.Refusal.the-variants.{Empty, Held, Flag, Length, Duration}
+use Rattle.base.specs.declared.types.Refusal.the-variants.{Empty, Held, Flag, Length, Duration, Due}
 use Rattle.rules.specs.Rules.{refusals}
 use Rattle.rules.specs.declared.types.Settings.{Settings}
 use Rattle.rules.specs.declared.types.Event.{Event}
@@ -28,7 +28,7 @@ module _ (t : Settings) (e : Event) (r : Verdict) where
   pub tries-1 : Tries 1 ((Flag, leb 128 (e .flags)) ∷ Sized)
   tries-1 k q = q ∙ simp (or-false, k)
 
-  pub tries-2 : Tries 2 ((Length, isOverlong (e .len)) ∷ [])
+  pub tries-2 : Tries 2 ((Length, isOverlong (e .len)) ∷ (Due, ltb (e .span) (e .now)) ∷ [])
   tries-2 k q = q ∙ simp (or-false, k)
 
   pub tries-3 : Tries 3 ((Length, isOverlong (e .acked)) ∷ (Duration, isEndless (t .gap)) ∷ [])

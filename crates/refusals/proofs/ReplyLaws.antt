@@ -6,6 +6,7 @@ use mathlib.Core.Bool.{Bool, true, false, cond}
 use mathlib.Core.List.{List, [], _∷_}
 use native.Mathlib.Omega.{arith}
 use Rattle.base.proofs.Cases.{never}
+use Rattle.base.proofs.RefusalLaws.{number-byte}
 use Rattle.base.specs.Refusals.{refusalNumber}
 use Rattle.base.specs.declared.types.Refusal.{Refusal}
 use Rattle.base.specs.declared.types.Refusal.the-variants as refusal
@@ -51,27 +52,8 @@ said-refused why {n} e h =
 pub said-word : (x : Reply) {s : Said} → s ≡ saidOf x → s .number * 0x1_0000_0000 + s .value % 0x1_0000_0000 ≡ wordOf x
 said-word x e = λ j. e j .number * 0x1_0000_0000 + e j .value % 0x1_0000_0000
 
--- so many refusals there are
-pub number-small : (why : Refusal) → refusalNumber why < 17
-number-small refusal.Slot = omega arith
-number-small refusal.Empty = omega arith
-number-small refusal.Held = omega arith
-number-small refusal.Flag = omega arith
-number-small refusal.Length = omega arith
-number-small refusal.Duration = omega arith
-number-small refusal.Margin = omega arith
-number-small refusal.Full = omega arith
-number-small refusal.Unknown = omega arith
-number-small refusal.NoSize = omega arith
-number-small refusal.NoPath = omega arith
-number-small refusal.Index = omega arith
-number-small refusal.Cut = omega arith
-number-small refusal.Map = omega arith
-number-small refusal.Kind = omega arith
-number-small refusal.Lent = omega arith
-
--- of any answer
-pub said-small : (x : Reply) → numberOf x < 17
+-- the number of any answer fits a byte
+pub said-small : (x : Reply) → numberOf x < 256
 said-small (reply.Id id) = omega arith
 said-small reply.InTime = omega arith
 said-small reply.Late = omega arith
@@ -81,7 +63,7 @@ said-small reply.Lost = omega arith
 said-small reply.Waits = omega arith
 said-small (reply.Chosen slot) = omega arith
 said-small reply.Nothing = omega arith
-said-small (reply.Refused why) = number-small why
+said-small (reply.Refused why) = number-byte why .1
 
 -- ---- no choice
 

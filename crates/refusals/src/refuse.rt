@@ -2,10 +2,10 @@
 ghost use mathlib.Core.Path.{_≡_};
 ghost use mathlib.Core.Bool.{true, not, _&&_, _||_};
 ghost use mathlib.Core.List.{[], _∷_};
-ghost use lib.Dec.{eqb, leb};
+ghost use lib.Dec.{eqb, leb, ltb};
 ghost use lib.ListN.{drop};
 ghost use Rattle.base.specs.Limits.{isOverlong, isUndersize, isEndless};
-ghost use Rattle.base.specs.declared.types.Refusal.the-variants.{Empty, Held, Flag, Length, Duration};
+ghost use Rattle.base.specs.declared.types.Refusal.the-variants.{Empty, Held, Flag, Length, Duration, Due};
 ghost use Rattle.rules.specs.Rules.{refusals};
 ghost use Rattle.refusals.specs.Refusals.{verdictOf};
 use base::limits::DURATION_END;
@@ -71,6 +71,26 @@ fn span_refusal(span: u64) -> Verdict
     Verdict::Pass
 }
 
+// 23 for a due instant below now.
+fn due_refusal(at: u64, due: u64) -> Verdict
+    ensures { λ r. ⌜ r ≡ verdictOf ((Due, ltb due at) ∷ []) ⌝ }
+{
+    if due < at {
+        return Verdict::Refused(Refusal::Due);
+    }
+    Verdict::Pass
+}
+
+// 5, then 23, of a probe: its length, its now and its due.
+fn probe_refusal(len: u32, at: u64, due: u64) -> Verdict
+    ensures { λ r. ⌜ r ≡ verdictOf ((Length, isOverlong len) ∷ (Due, ltb due at) ∷ []) ⌝ }
+{
+    if MAX_LEN < len {
+        return Verdict::Refused(Refusal::Length);
+    }
+    due_refusal(at, due)
+}
+
 // 5, then 6, of an answer: the acknowledged length and the gap.
 fn answer_refusal(acked: u32, gap: u64) -> Verdict
     ensures { λ r. ⌜ r ≡ verdictOf ((Length, isOverlong acked) ∷ (Duration, isEndless gap) ∷ []) ⌝ }
@@ -111,7 +131,7 @@ fn sample_refusal(span: u64, window: u64, horizon: u64) -> Verdict
     Verdict::Pass
 }
 
-// The first of 4, 5 and 6: of the fields that the event's kind has and the settings that it reads, so that each kind
+// The first of 4, 5, 6 and 23: of the fields that the event's kind has and the settings that it reads, so that each kind
 // tries its own alone.
 fn field_refusal(t: Settings, e: Event) -> Verdict
     ensures { λ r. ⌜ r ≡ verdictOf (drop 4 (refusals t true e)) ⌝ }
@@ -119,7 +139,7 @@ fn field_refusal(t: Settings, e: Event) -> Verdict
     let k = e.kind;
     match k {
         1 => open_refusal(e.flags, e.len),
-        2 => length_refusal(e.len),
+        2 => probe_refusal(e.len, e.now, e.span),
         3 => answer_refusal(e.acked, t.gap),
         4 => poll_refusal(e.flags, t.cap),
         5 => sample_refusal(e.span, t.window, t.horizon),
@@ -147,7 +167,8 @@ fn slot_refusal(used: bool, k: u8) -> Verdict
     Verdict::Refused(Refusal::Empty)
 }
 
-// The first refusal whose condition holds, of an event on a slot that is held or empty: 15 before 1, then by number.
+// The first refusal whose condition holds, of an event on a slot that is held or empty: 15 before 1, then by number;
+// 8, 9 and 10, which the work finds, come behind all of these.
 pub fn first_refusal(t: Settings, used: bool, e: Event) -> Verdict
     ensures { λ r. ⌜ r ≡ verdictOf (refusals t used e) ⌝ }
 {

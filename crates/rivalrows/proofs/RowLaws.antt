@@ -3,42 +3,21 @@
 -- Assumes nothing.
 use Prim.Native.Nat.{ℕ, _+_, _*_, _/_, _%_, _<_}
 use mathlib.Core.Path.{_≡_, refl, ap, _∙_}
-use mathlib.Core.Bool.{Bool, true, false}
+use mathlib.Core.Bool.{Bool}
 use mathlib.Core.List.{List, [], _∷_, map}
 use native.Mathlib.Omega.{arith}
 use lib.Dec.{T}
-use lib.Ieee.{Float, nan, inf, fin, binary64, fits, isNan, ofBits}
-use lib.Ieee.Bits.{ofBits-toBits}
+use lib.Ieee.{Float, binary64, fits}
 use lib.ListN.{length, getD}
 use Rattle.base.specs.Seq.{flagOf}
+use Rattle.base.proofs.Cases.{flag-small, flag-bit}
 use Rattle.total.specs.Patterns.{floatOf, etxBits}
+use Rattle.total.proofs.PlaceLaws.{float-again}
 use Rattle.select.specs.Media.{mediumOf}
 use Rattle.select.specs.declared.types.Medium.{Medium}
 use Rattle.select.specs.declared.types.Rival.{Rival}
 use Rattle.select.proofs.MediaLaws.{medium-small, medium-same}
 use Rattle.rivalrows.specs.Rows.{bitOf, rivalIn, fieldIn, marksWord, rowOf}
-
--- a flag is below 2
-pub flag-small : (b : Bool) → flagOf b < 2
-flag-small true = omega arith
-flag-small false = omega arith
-
--- a flag by its bit
-bit-same : (b : Bool) (x : ℕ) → x % 2 ≡ flagOf b → bitOf x ≡ b
-bit-same true x e = rw e
-bit-same false x e = rw e
-
--- the quiet NaN's pattern
-nan-read : ofBits binary64 0x7ff8_0000_0000_0000 ≡ nan
-unfolding ofBits
-nan-read = refl
-
--- the pattern of a float says it
-float-read : (x : Float) → T (fits binary64 x) → floatOf (etxBits x) ≡ x
-unfolding isNan
-float-read nan h = nan-read
-float-read (inf s) h = ofBits-toBits binary64 (inf s) h
-float-read (fin s m k) h = ofBits-toBits binary64 (fin s m k) h
 
 -- the parts of the marks
 record Parts (x a b c m : ℕ) : Type 0 where
@@ -65,18 +44,18 @@ row-says r s t n =
     (medium-small (r .medium)) in
     let tier : r .tier % 256 ≡ r .tier = omega arith in
     let one : (b : Bool) → bitOf (flagOf b) ≡ b =
-    λ b. let z : flagOf b % 2 ≡ flagOf b = omega (arith, flag-small b) in bit-same b (flagOf b) z in
+    λ b. let z : flagOf b % 2 ≡ flagOf b = omega (arith, flag-small b) in flag-bit b _ z in
     let held = one (r .held) in
     let scored = one (r .scored) in
     let steadied = one (r .steadied) in
     let timed = one (r .timed) in
     let based = one (r .based) in
-    let preferred = bit-same (r .preferred) (marksWord r) (p .preferred) in
-    let pinned = bit-same (r .pinned) (marksWord r / 2) (p .pinned) in
-    let fit = bit-same (r .fits) (marksWord r / 4) (p .fits) in
+    let preferred = flag-bit (r .preferred) _ (p .preferred) in
+    let pinned = flag-bit (r .pinned) _ (p .pinned) in
+    let fit = flag-bit (r .fits) _ (p .fits) in
     let medium = medium-same (r .medium) (marksWord r / 16) (p .medium) in
-    let score = float-read (r .score) s in
-    let steady = float-read (r .steady) t in
+    let score = float-again (r .score) s in
+    let steady = float-again (r .steady) t in
     λ i. record {
       score = score i;
       steady = steady i;

@@ -1,6 +1,6 @@
 -- The smallest lists on which a clause of demand 3 could break, computed: each is named for the edit in must-fail/ that
 -- breaks it. This file is checked first, from its top down, and a list stands above those that its edit breaks too: so what
--- is refused first of an edit is the list of its name. once-draws and twelve-eleven have none: they change a number of the
+-- is refused first of an edit is the list of its name. once-draws, twelve-eleven and dues-after have none: they change the
 -- claim itself, and are refused where the theorem needs it.
 -- Assumes nothing.
 use Prim.Native.Nat.{ℕ, zero, suc, _≤_, _^_}
@@ -66,9 +66,49 @@ Marked es = marksOf (slotAfter t es 0 .used) (slotAfter t es 0 .label) ≡ bookA
 abbrev Searched : List Event → Type 0
 Searched es = searchOf (slotAfter t es 0 .path .sizes) ≡ bookAfter t es 0 .sizing .tally .search
 
--- the value of one more event
+-- the refusal number and the value of one more event
+abbrev refuses : List Event → Event → ℕ
+refuses es e = numberOf (step (run (freshRecord t) es) e .reply)
+
 abbrev says : List Event → Event → ℕ
 says es e = valueOf (step (run (freshRecord t) es) e .reply)
+
+-- ---- nothing: an open leaves a path
+
+nothing-changed : Marked (opens 27 0 ∷ [])
+unfolding answers noted
+nothing-changed = refl
+
+-- ---- order: the refusals are tried in the table's order, 15 first and 23 last, which stands before 8; a probe may be due
+-- at its now; one that is refused takes no identifier
+
+-- a probe of so many bytes, due before its now
+abbrev behind : ℕ → Event
+behind len = event 2 0 1 0 7 len 0 0
+
+abbrev probes : ℕ → List Event
+probes zero = []
+probes (suc n) = probe ∷ probes n
+
+order-due : refuses (opens 27 0 ∷ []) (behind 65536) ≡ 5
+unfolding answers noted
+order-due = refl
+
+order-full : refuses (opens 27 0 ∷ probes 8) (behind 0) ≡ 23
+unfolding answers noted
+order-full = refl
+
+order-equal : refuses (opens 27 0 ∷ []) probe ≡ 0
+unfolding answers noted
+order-equal = refl
+
+order-taken : says (opens 27 0 ∷ behind 0 ∷ []) probe ≡ 7
+unfolding answers noted
+order-taken = refl
+
+order-kind : (t : Settings) (used : Bool) (e : Event)
+    → map (λ x. refusalNumber (x .0)) (refusals t used e) ≡ 15 ∷ 1 ∷ 2 ∷ 3 ∷ 4 ∷ 5 ∷ 6 ∷ 23 ∷ []
+order-kind t used e = refl
 
 -- ---- rings: a probe; its answer; two lapses; one that is not due; a deferral
 
@@ -140,12 +180,6 @@ sought = opens 60 0 ∷ prove 27 ∷ search 0 ∷ probe ∷ answer 1 ∷ []
 settled-early : says sought (judge 1) ≡ judgeSays (bookAfter t sought 0) (judge 1)
 unfolding answers noted
 settled-early = refl
-
--- ---- order: the refusals are tried in the table's order, 15 first
-
-order-kind : (t : Settings) (used : Bool) (e : Event)
-    → map (λ x. refusalNumber (x .0)) (refusals t used e) ≡ 15 ∷ 1 ∷ 2 ∷ 3 ∷ 4 ∷ 5 ∷ 6 ∷ []
-order-kind t used e = refl
 
 -- ---- settings: one of 2^62 or more that an event reads gives 6: poll the cap; answer and judge the gap; sample window and
 -- horizon. No other event reads one
@@ -241,16 +275,12 @@ opensAt slot flags = event 1 slot 0 0 0 27 0 flags
 abbrev choose : Event
 choose = event 15 0 0 0x3ff0_0000_0000_0000 0 0 0 0
 
--- the refusal number of a choose
-abbrev refuses : List Event → ℕ
-refuses es = numberOf (step (run (freshRecord t) es) choose .reply)
-
 -- a path of tier 2
-chosen-margin : refuses (opensAt 0 8 ∷ []) ≡ 0
+chosen-margin : refuses (opensAt 0 8 ∷ []) choose ≡ 0
 unfolding answers noted
 chosen-margin = refl
 
-chosen-tier : refuses (opensAt 0 0 ∷ []) ≡ 0
+chosen-tier : refuses (opensAt 0 0 ∷ []) choose ≡ 0
 unfolding answers noted
 chosen-tier = refl
 

@@ -16,6 +16,7 @@ use Rattle.base.specs.declared.types.Refusal.the-variants as refusal
 use Rattle.base.specs.declared.types.MaybeLen.{MaybeLen}
 use Rattle.base.specs.declared.types.MaybeLen.the-variants as len
 use Rattle.base.proofs.Cases.{never, cond-cases}
+use Rattle.base.proofs.RefusalLaws.{number-some}
 use Rattle.ring.specs.Ring.{firstFree, found}
 use Rattle.seek.specs.Search as search
 use Rattle.seek.specs.declared.types.Settled.{Settled}
@@ -34,7 +35,7 @@ use Rattle.rules.specs.declared.types.Slot.{Slot}
 use Rattle.rules.specs.declared.types.Record.{Record}
 use Rattle.rules.specs.declared.types.Turn.{Turn}
 use Rattle.rules.specs.declared.types.Stepped.{Stepped}
-use Rattle.rules.proofs.Laws.{Passes, refused-or, refused-number}
+use Rattle.rules.proofs.Laws.{Passes, refused-or}
 use Rattle.rules.proofs.Turns.{withKind, Work, slot-kept}
 
 module _ (t : Settings) (s : Slot) (e₀ : Event) where
@@ -158,5 +159,5 @@ pub accepted-clear : (t : Settings) (s : Slot) (e : Event) → numberOf (onSlot 
 unfolding onSlot isClear
 accepted-clear t s e =
     refused-or (λ (u : Turn). numberOf (u .reply) ≡ 0 → isClear t (s .used) e ≡ true) (refusals t (s .used) e) s _
-    (λ why n. absurd (eqb-false (refusalNumber why) 0 (refused-number why) n))
+    (λ why n. absurd (eqb-false (refusalNumber why) 0 (number-some why) n))
     (λ ok n. passes-clear (refusals t (s .used) e) ok)

@@ -13,6 +13,7 @@ use Rattle.base.specs.declared.types.Refusal.{Refusal}
 use Rattle.base.specs.declared.types.Refusal.the-variants as refusal
 use Rattle.base.proofs.Cases.{on-flag, on-order, never, cond-cases}
 use Rattle.base.proofs.BookLaws.{holds-kept}
+use Rattle.base.proofs.RefusalLaws.{number-some}
 use Rattle.ring.specs.Ring.{noSent, isUsed}
 use Rattle.select.specs.Choice.{pickedOf}
 use Rattle.rules.specs.Event.{Kind, Answer, Search, Judge, Choose, kindNumber, is, numberOf, valueOf}
@@ -27,7 +28,7 @@ use Rattle.rules.specs.declared.types.Slot.{Slot}
 use Rattle.rules.specs.declared.types.Record.{Record}
 use Rattle.rules.specs.declared.types.Turn.{Turn}
 use Rattle.rules.specs.declared.types.Stepped.{Stepped}
-use Rattle.rules.proofs.Laws.{and-second, refused-number}
+use Rattle.rules.proofs.Laws.{and-second}
 use Rattle.rules.proofs.Turns.{after, Next, by-number}
 use Rattle.rules.proofs.Agree.{Inv, new-inv}
 use Rattle.rules.proofs.Kept.{Proposed, Says, kept, said}
@@ -152,7 +153,7 @@ module _ (t : Settings) (small : allowed t ≡ true) (r : Record) (bs : Books) (
       let n : after t (bs i) e u ≡ bs i =
       with-t (λ (x : Turn). after t (bs i) e x ≡ bs i)
       (subst (λ (x : Turn). after t (bs i) e x ≡ bs i) (sym (w .1))
-      (ap (λ (f : Bool). cond f (noted t (bs i) e 0) (bs i)) (refused-number (w .0)))) in
+      (ap (λ (f : Bool). cond f (noted t (bs i) e 0) (bs i)) (number-some (w .0)))) in
       subst (Inv t (slotAt (o .next) i)) (sym (note-own ∙ n))
       (subst (λ (x : Slot). Inv t x (bs i)) (sym q) (g .slots i))
 

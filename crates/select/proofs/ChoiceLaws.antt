@@ -212,7 +212,7 @@ picked-there l margin = among-there (rankedOf l) margin (firstBy byScore (scored
 -- ---- the chosen place
 
 -- at each place of a field that is placed stands no rival, or one with the place for index
-placed-at : (l : List Rival) (n j : ℕ) → placed n l ≡ true → j < length l → atPlace (n + j) (getD l j noRival) ≡ true
+pub placed-at : (l : List Rival) (n j : ℕ) → placed n l ≡ true → j < length l → atPlace (n + j) (getD l j noRival) ≡ true
 placed-at [] n j e h = absurd (omega arith)
 placed-at (r ∷ l) n zero e h =
     let k : n + 0 ≡ n = omega arith in

@@ -40,8 +40,8 @@ unfolding ofBits
 quiet-nan = refl
 
 -- its float again
-again : (x : Float) → T (fits binary64 x) → floatOf (etxBits x) ≡ x
-again x f =
+pub float-again : (x : Float) → T (fits binary64 x) → floatOf (etxBits x) ≡ x
+float-again x f =
     on-flag (isNan x)
     (λ h. rw h (quiet-nan ∙ the-nan x h))
     (λ h. rw h (ofBits-toBits binary64 x f))
@@ -61,7 +61,7 @@ told x f = on-flag (isNan x) (λ h. inr (rw h)) (λ h. inl (rw h (number x f h))
 place-total : (x y : Float) → T (fits binary64 x) → T (fits binary64 y) → totalOf x y ≡ leb (keyOf x) (keyOf y)
 unfolding keyOf
 place-total x y f g =
-    sym (λ i. totalOf (again x f i) (again y g i))
+    sym (λ i. totalOf (float-again x f i) (float-again y g i))
     ∙ total-patterns binary64 (etxBits x) (etxBits y) (told x f) (told y g)
     ∙ sym (total-key binary64 (etxBits x) (etxBits y) (under x f) (under y g))
 
@@ -107,7 +107,7 @@ turned b u =
 
 place-back : (x : Float) → T (fits binary64 x) → keyFloat (keyOf x) ≡ x
 unfolding keyOf keyFloat
-place-back x f = ap floatOf (turned (etxBits x) (under x f)) ∙ again x f
+place-back x f = ap floatOf (turned (etxBits x) (under x f)) ∙ float-again x f
 
 -- the place of a pattern's float, as `pattern_key` has it
 abbrev placeAt : ℕ → ℕ

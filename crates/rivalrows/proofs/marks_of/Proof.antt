@@ -1,8 +1,8 @@
 -- `rivalrows::marks_of` meets its contract.
 -- Assumes nothing.
 use borrow.Author.Needs.{needs}
-use Rattle.rivalrows.proofs.RowLaws.{flag-small}
 use native.Mathlib.Omega.{arith}
+use Rattle.base.proofs.Cases.{flag-small}
 use Rattle.rivalrows.proofs.marks_of.Statement.{statement}
 use Rattle.rivalrows.proofs.marks_of.Tie as tie
 

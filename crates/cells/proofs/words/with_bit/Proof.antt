@@ -3,7 +3,8 @@
 use Prim.Native.Nat.{_%_}
 use native.Mathlib.Omega.{arith}
 use lib.Pow.{shr-le, pow-pos}
-use Rattle.cells.proofs.BitLaws.{flag-small, one-shl, bit-made}
+use Rattle.base.proofs.Cases.{flag-small}
+use Rattle.cells.proofs.BitLaws.{one-shl, bit-made}
 use borrow.Author.Needs.{needs}
 use Rattle.cells.proofs.words.with_bit.Statement.{statement}
 use Rattle.cells.proofs.words.with_bit.Tie as tie

@@ -1,6 +1,5 @@
 -- `choices::words::any_past` meets its contract: of the rows seen none passes the longest, unless one was found. The
 -- measure is the rows left.
--- measure is the rows left.
 -- Assumes nothing.
 use borrow.Author.Needs.{needs}
 use Prim.Native.Nat.{_-_}

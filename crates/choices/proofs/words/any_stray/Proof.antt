@@ -1,6 +1,5 @@
 -- `choices::words::any_stray` meets its contract: of the rows seen each is at its place, unless one was found. The
 -- measure is the rows left.
--- measure is the rows left.
 -- Assumes nothing.
 use borrow.Author.Needs.{needs}
 use Prim.Native.Nat.{_-_}

@@ -9,8 +9,8 @@ use Rattle.refusals.proofs.refuse.field_refusal.Tie as tie
 open-refusal-requires : tie.Need-open-refusal-requires
 open-refusal-requires c κs = search needs
 
-length-refusal-requires : tie.Need-length-refusal-requires
-length-refusal-requires c κs = search needs
+probe-refusal-requires : tie.Need-probe-refusal-requires
+probe-refusal-requires c κs = search needs
 
 answer-refusal-requires : tie.Need-answer-refusal-requires
 answer-refusal-requires c κs = search needs
@@ -30,14 +30,14 @@ size-refusal-requires c κs = search needs
 judge-refusal-requires : tie.Need-judge-refusal-requires
 judge-refusal-requires c κs = search needs
 
-length-refusal-requires-2 : tie.Need-length-refusal-requires-2
-length-refusal-requires-2 c κs = search needs
+length-refusal-requires : tie.Need-length-refusal-requires
+length-refusal-requires c κs = search needs
 
 returns : tie.Need-returns
 returns c = tries-1 (c .before .before .args .t) (c .before .before .args .e) _ (c .before .match .keys1) (c .open-refusal .ensures)
 
 returns-2 : tie.Need-returns-2
-returns-2 c = tries-2 (c .before .before .args .t) (c .before .before .args .e) _ (c .before .match .keys2) (c .length-refusal .ensures)
+returns-2 c = tries-2 (c .before .before .args .t) (c .before .before .args .e) _ (c .before .match .keys2) (c .probe-refusal .ensures)
 
 returns-3 : tie.Need-returns-3
 returns-3 c = tries-3 (c .before .before .args .t) (c .before .before .args .e) _ (c .before .match .keys3) (c .answer-refusal .ensures)
@@ -58,7 +58,7 @@ returns-8 : tie.Need-returns-8
 returns-8 c = tries-9 (c .before .before .args .t) (c .before .before .args .e) _ (c .before .match .keys8) (c .judge-refusal .ensures)
 
 returns-9 : tie.Need-returns-9
-returns-9 c = tries-10 (c .before .before .args .t) (c .before .before .args .e) _ (c .before .match .keys9) (c .length-refusal2 .ensures)
+returns-9 c = tries-10 (c .before .before .args .t) (c .before .before .args .e) _ (c .before .match .keys9) (c .length-refusal .ensures)
 
 returns-10 : tie.Need-returns-10
 returns-10 c = tries-none (c .before .args .t) (c .before .args .e) (ne-eqb _ _ (c .match .rest .0 .0 .0 .0 .0 .0 .0 .0 .1)) (ne-eqb _ _ (c .match .rest .0 .0 .0 .0 .0 .0 .0 .1)) (ne-eqb _ _ (c .match .rest .0 .0 .0 .0 .0 .0 .1)) (ne-eqb _ _ (c .match .rest .0 .0 .0 .0 .0 .1)) (ne-eqb _ _ (c .match .rest .0 .0 .0 .0 .1)) (ne-eqb _ _ (c .match .rest .0 .0 .0 .1)) (ne-eqb _ _ (c .match .rest .0 .0 .1)) (ne-eqb _ _ (c .match .rest .0 .1)) (ne-eqb _ _ (c .match .rest .1))
@@ -68,14 +68,14 @@ field-refusal-spec =
     tie.close
     (tie.spec
     open-refusal-requires
-    length-refusal-requires
+    probe-refusal-requires
     answer-refusal-requires
     poll-refusal-requires
     sample-refusal-requires
     flag-refusal-requires
     size-refusal-requires
     judge-refusal-requires
-    length-refusal-requires-2
+    length-refusal-requires
     returns
     returns-2
     returns-3
