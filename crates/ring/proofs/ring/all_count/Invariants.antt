@@ -1,0 +1,10 @@
+use Prim.Native.Nat.{◌-◌}
+use Rattle.ring.specs.Ring.{fine_of}
+use Rattle.base.proofs.SeqLaws.{Passed}
+use Rattle.ring.proofs.ring.all_count.Given as goal
+
+abbrev pub invariant-loop-i : goal.invariant-loop-i
+invariant-loop-i l = Passed (fine_of l.since) l.ring 8 l.i
+
+abbrev pub decreases-loop-i : goal.decreases-loop-i
+decreases-loop-i l = 8 - l.i
