@@ -5,17 +5,19 @@
 // come in its claim `portions`; what is done with the bytes that are held stands in those of `feed`. Left here, and
 // stated by no contract: that the bytes of standard input are read in their order, behind those that are held, and
 // that what a call wrote is written.
-// A program has no exit status of its own here: one that cannot read or write says so on standard error, its only line
-// there, and ends; `./pathlog` gives the status.
+// A read or a write that fails ends it with the error and status 1; `./pathlog` passes both on.
 #![tactic(auto)]
 
-use libc::{STDERR_FILENO, STDIN_FILENO, STDOUT_FILENO};
 use rows::places::ROWS;
 use select::types::PATH_MAX_PER_PEER;
 use session::types::*;
+use std::io;
+use std::io::{Read, Write};
 
 // Bytes p to n of `buf` are held. Each turn is a call; one that did not stop for want of room is followed by a read.
-fn main() {
+fn main(rt: HostRuntime) -> io::Result<()> {
+    let mut input = rt.reader();
+    let mut output = io::writer(&rt);
     let mut bytes = [0u8; 65536];
     let mut text = [0u8; 65536];
     let buf: &mut [u8] = &mut bytes;
@@ -28,38 +30,29 @@ fn main() {
     let mut p: usize = 0;
     let mut n: usize = 0;
     // What ends must be seen to end: 2^64 - 1 turns are more than any input has.
-    let mut turns: u64 = u64::MAX;
-    while 0 < turns {
-        turns = turns - 1;
+    for _ in 0..u64::MAX {
         let r = portions::feed::call(&mut settings, &mut rec, mark, buf, p, n, out);
         let wrote = r.wrote;
         let next = r.mark;
         let phase = next.phase;
         mark = next;
         p = std::num::wrapping_add_usize(p, r.place);
-        if !io::write_all(STDOUT_FILENO, &out[0..wrote]) {
-            break;
-        }
+        output.write_all(&out[0..wrote])?;
         if portions::feed::is_over(phase) {
-            return;
+            return Ok(());
         }
         if !r.full {
             let held = portions::feed::shift(buf, p, n);
-            let got = libc::read(STDIN_FILENO, &mut buf[held..]);
-            if got < 0 {
-                break;
-            }
+            let got = input.read(&mut buf[held..])?;
             p = 0;
-            n = std::num::wrapping_add_usize(held, io::count(got, &buf[held..]));
+            n = std::num::wrapping_add_usize(held, got);
             if n == held {
                 let last = portions::feed::finish(mark, buf, 0, n, out);
                 let line = &out[..];
-                if io::write_all(STDOUT_FILENO, &line[0..last]) {
-                    return;
-                }
-                break;
+                output.write_all(&line[0..last])?;
+                return Ok(());
             }
         }
     }
-    io::write_all(STDERR_FILENO, b"pathlog: a read or a write failed\n");
+    Ok(())
 }

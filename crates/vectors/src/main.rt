@@ -12,7 +12,10 @@
 
 ghost use Rattle.std.specs.Prelude.{◌≡◌, true, leb};
 
-use libc::{STDIN_FILENO, STDOUT_FILENO};
+// Standard input and standard output, by their numbers.
+const STDIN_FILENO: i32 = 0;
+
+const STDOUT_FILENO: i32 = 1;
 
 // How many of the next `many` records of script agree, up to the first that is not whole.
 fn scripts(many: u64) -> u64
