@@ -1,37 +1,26 @@
 -- `spans::place` meets its contract: the gap where there is one, else the leader, which is there.
--- Assumes nothing.
 use Prim.Native.Nat.{◌≤◌}
 use Rattle.base.proofs.FirstLaws.{by-least}
 use Rattle.base.proofs.MarkedLaws.{place-gap, place-leader, place-there}
 use Rattle.base.specs.Marked.{first_gap}
-use Rattle.spans.proofs.place.Statement.{statement}
-use Rattle.spans.proofs.place.Tie as tie
 use Rattle.rtt.specs.Spans.{is_span, span_earlier, no_span}
 use Rattle.rtt.specs.declared.types.Span.{Span}
 use borrow.Author.Rules.{rules}
 use lib.ListN.{length}
 use mathlib.Core.Path.{◌≡◌, refl}
 use native.Mathlib.Omega.{arith}
+use Rattle.spans.proofs.place.Goals as goal
 
-first-gap-requires : tie.Need-first-gap-requires
-first-gap-requires c κs = search rules
+pub returns-then-gap-lt-SPANS : goal.returns-then-gap-lt-SPANS
+returns-then-gap-lt-SPANS c =
+    let l = c.args.spans in
+    let h : length l ≡ 8 = search rules in
+    (place-gap is_span span_earlier l c.first_gap-gap.ensures (omega arith), omega arith)
 
-returns : tie.Need-returns
+pub returns : goal.returns
 returns c =
-    let l = c.before.before.args.spans in
+    let l = c.args.spans in
     let h : length l ≡ 8 = search rules in
-    (place-gap is_span span_earlier l c.before.first-gap.ensures (omega arith), omega arith)
-
-oldest-requires : tie.Need-oldest-requires
-oldest-requires c κs = search rules
-
-returns-2 : tie.Need-returns-2
-returns-2 c =
-    let l = c.before.before.before.args.spans in
-    let h : length l ≡ 8 = search rules in
-    let full : length l ≤ first_gap is_span l = omega (arith, c.before.before.first-gap.ensures, c.before.if1.false) in
+    let full : length l ≤ first_gap is_span l = omega (arith, c.first_gap-gap.ensures, c.if-gap-lt-SPANS.false) in
     let e = place-leader is_span span_earlier l full c.oldest.ensures in
     (e, rw e (omega (arith, place-there is_span span_earlier (by-least (λ (s : Span). s.from)) no_span refl l (omega arith))))
-
-pub place-spec : {M : Type 1} → statement M
-place-spec = tie.close (tie.spec first-gap-requires returns oldest-requires returns-2)
