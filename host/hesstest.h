@@ -1,5 +1,5 @@
 /*
- * The test's own C functions, of libhesstest.a, which `rt staticlib hesstest` proves and writes to target/staticlib
+ * The test's own C functions, of libhesstest.a, which `host/build hesstest` proves and writes to target/staticlib
  * (x86-64 Linux). No product carries them: so they stand under host/, and include/ has what a product takes over and
  * nothing else. `host/examples` holds each declaration to the function's own in crates/hesstest/src.
  *

@@ -1,5 +1,5 @@
 /*
- * Hessiantalc over C: every function of libhessiantalc.a (x86-64 Linux), which `rt staticlib hessiantalc` proves and
+ * Hessiantalc over C: every function of libhessiantalc.a (x86-64 Linux), which `host/build hessiantalc` proves and
  * writes to target/staticlib. This header and that archive are all that a program takes over:
  *
  *     cc -I DIR-OF-THE-HEADER program.c DIR-OF-THE-ARCHIVE/libhessiantalc.a -o program

@@ -1,4 +1,4 @@
-use Rattle.std.proofs.Common.{refl}
+use mathlib.Core.Path.{refl}
 use Rattle.cells.specs.Cells.{bit_in}
 use Rattle.cells.proofs.words.bit_in.Goals as goal
 

@@ -1,4 +1,5 @@
-use Rattle.std.proofs.Common.{◌%◌, arith}
+use Prim.Native.Nat.{◌%◌}
+use native.Mathlib.Omega.{arith}
 use Rattle.cells.proofs.BitLaws.{bit-made}
 use Rattle.cells.proofs.words.with_bit.Goals as goal
 

@@ -1,0 +1,15 @@
+-- `leads::keys::trip_keys` meets its contract: the loop fills each place. The measure is the places left.
+use Prim.Native.Nat.{◌-◌}
+use mathlib.Core.Path.{◌≡◌}
+use mathlib.Core.List.{map}
+use lib.ListN.{length}
+use Rattle.rivalrows.specs.Rows.{field_in}
+use Rattle.leads.specs.Keys.{trip_key}
+use Rattle.leads.proofs.LoopLaws.{Filling, Worded}
+use Rattle.leads.proofs.keys.trip_keys.Given as goal
+
+abbrev pub invariant-loop-i : goal.invariant-loop-i
+invariant-loop-i l = (length l.field ≡ 8) × Filling (map (trip_key l.top) (field_in l.field)) l.out l.i × Worded l.out l.i
+
+abbrev pub decreases-loop-i : goal.decreases-loop-i
+decreases-loop-i l = 8 - l.i
