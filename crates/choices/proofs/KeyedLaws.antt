@@ -1,7 +1,7 @@
 -- The first of a list's rivals that pass a test, by its place: where it passes, none that passes comes before it, and it
 -- comes before each earlier one that passes; and so by the least of their keys. One law for every scan of the choice.
 -- Assumes nothing.
-use Prim.Native.Nat.{ℕ, zero, suc, ◌+◌, ◌<◌, ◌≤◌}
+use Prim.Native.Nat.{ℕ, zero, suc, ◌<◌, ◌≤◌}
 use mathlib.Core.Path.{◌≡◌, refl, ap, ◌∙◌}
 use mathlib.Core.Bool.{Bool, true, false, not, ◌&&◌, ◌||◌}
 use mathlib.Core.List.{List, [], ◌∷◌}

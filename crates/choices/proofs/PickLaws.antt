@@ -1,6 +1,6 @@
 -- What the steps of the choice find: the first by score, by medium and by round trip, each by the least of its keys.
 -- Assumes nothing.
-use Prim.Native.Nat.{ℕ, ◌+◌, ◌%◌, ◌<◌, ◌≤◌}
+use Prim.Native.Nat.{ℕ, ◌+◌, ◌<◌, ◌≤◌}
 use mathlib.Core.Path.{◌≡◌, refl, ap, sym, ◌∙◌}
 use mathlib.Core.Bool.{Bool, true, false, not, ◌&&◌, ◌||◌}
 use mathlib.Core.List.{List, [], ◌∷◌, map}
@@ -19,17 +19,7 @@ use Rattle.total.specs.Places.{key_of, key_float, limit_key}
 use Rattle.total.proofs.PlaceLaws.{key-total, key-off, key_back, key-limit, limit-under}
 use Rattle.select.specs.Media.{speed_of, quicker_of}
 use Rattle.select.specs.Rivals.{no_rival, at_place, placed, by_score, by_medium}
-use Rattle.select.specs.Choice.{
-  first_by,
-  or_else,
-  scored_of,
-  limit_of,
-  near_of,
-  preferred_of,
-  quick_of,
-  quickest,
-  among_scored,
-}
+use Rattle.select.specs.Choice.{first_by, or_else, limit_of, near_of, preferred_of, quick_of, quickest, among_scored}
 use Rattle.select.proofs.ChoiceLaws.{placed_at}
 use Rattle.select.specs.declared.types.Medium.{Medium}
 use Rattle.select.specs.declared.types.Medium.TheVariants as medium
@@ -37,21 +27,7 @@ use Rattle.select.specs.declared.types.Rival.{Rival}
 use Rattle.select.specs.declared.types.MaybeRival.{MaybeRival}
 use Rattle.select.specs.declared.types.MaybeRival.TheVariants.{None, Some}
 use Rattle.rivalrows.specs.Rows.{rival_in, field_in}
-use Rattle.leads.specs.Keys.{
-  off_key,
-  key_if,
-  rank_key,
-  is_top,
-  score_key,
-  wait_key,
-  trip_key,
-  speed_key,
-  are_words,
-  left_keys,
-  is_near_key,
-  is_speed,
-  least_lead,
-}
+use Rattle.leads.specs.Keys.{off_key, key_if, rank_key, is_top, score_key, speed_key, left_keys, is_near_key, is_speed, least_lead}
 use Rattle.leads.specs.declared.least.Lead.{Lead}
 use Rattle.leads.proofs.LoopLaws.{Least, Found, least-found, map_at, at-is, field-long}
 use Rattle.choices.specs.Steps.{over_medium, isLeft, after_best}

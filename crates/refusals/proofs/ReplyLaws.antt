@@ -9,7 +9,6 @@ use Rattle.base.proofs.Cases.{never}
 use Rattle.base.proofs.RefusalLaws.{number-byte}
 use Rattle.base.specs.Refusals.{refusal_number}
 use Rattle.base.specs.declared.types.Refusal.{Refusal}
-use Rattle.base.specs.declared.types.Refusal.TheVariants as refusal
 use Rattle.live.specs.Answers.{answer_value, is_accepted}
 use Rattle.live.specs.Probe.{send_of, answer_of}
 use Rattle.live.specs.Search.{seek_size_of, seek_send_of, seek_answer_of, seek_judge_of}

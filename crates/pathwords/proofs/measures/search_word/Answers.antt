@@ -1,0 +1,7 @@
+use Rattle.cells.specs.Code.{search_word}
+use Rattle.cells.proofs.RowLaws.{halves-made}
+use Rattle.pathwords.proofs.measures.search_word.Goals as goal
+
+pub returns : goal.returns
+unfolding search_word
+returns c = halves-made 65536 c.wide-id.ensures c.wide_len-len.ensures

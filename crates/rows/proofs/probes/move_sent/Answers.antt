@@ -1,0 +1,12 @@
+use Rattle.rows.proofs.SaysLaws.{none-ring, past-ring, says-ring, coded-ring}
+use Rattle.rows.proofs.ViewLaws.{ring-at}
+use Rattle.rows.proofs.probes.move_sent.Goals as goal
+
+pub returns-then-from-ge-RING : goal.returns-then-from-ge-RING
+returns-then-from-ge-RING c = none-ring _ c.rows.ensures.1 _ c.if-from-ge-RING.true c.none-free.ensures c.set_sent.ensures
+
+pub returns-then-to-ge-RING : goal.returns-then-to-ge-RING
+returns-then-to-ge-RING c = past-ring _ c.rows.ensures.1 _ c.if-to-ge-RING.true
+
+pub returns : goal.returns
+returns c = let n = c.rows.ensures.1 in let h = c.if-from-ge-RING.false in says-ring _ n _ c.if-to-ge-RING.false (coded-ring _ n _ h, ring-at _ _ h)

@@ -1,0 +1,5 @@
+use Rattle.rows.proofs.SaysLaws.{says-ids, whole}
+use Rattle.rows.proofs.probes.set_ids.Goals as goal
+
+pub returns : goal.returns
+returns c = says-ids _ c.rows.ensures.1 _ (whole c.ids_row-t.ensures)
