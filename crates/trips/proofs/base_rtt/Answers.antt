@@ -1,10 +1,8 @@
 use borrow.Author.Rules.{rules}
-use Prim.Native.Nat.{◌-◌}
 use Rattle.rows.proofs.ViewLaws.{spans-length}
 use Rattle.base.proofs.ScanLaws.{folding-start}
 use Rattle.base.proofs.LeastLaws.{folding-least}
 use Rattle.rtt.specs.Spans.{base_rtt}
-use Rattle.trips.proofs.TripLaws.{least-take, least_skip}
 use Rattle.trips.proofs.base_rtt.Goals as goal
 
 pub loop-i-init : goal.loop-i-init
