@@ -1,6 +1,6 @@
 -- Probes sent, answered and lapsed (document 01, "Identifiers" and "Ring (8) and late list (4)"), with the refusals 5,
 -- 6, 8 and 9.
-use Rattle.std.specs.Prelude.{ℕ, Bool, true, cond, ◌||◌, List, set, replicate, nat_le, nat_lt, slice_index_or, slice_set}
+use Rattle.std.specs.Prelude.{ℕ, Bool, true, cond, ◌||◌, List, replicate, nat_le, nat_lt, slice_index_or, slice_set}
 use Rattle.base.specs.Limits.{is_overlong, is_endless}
 use Rattle.base.specs.declared.types.Refusal.TheVariants.{Length, Duration, Full, Unknown}
 use Rattle.base.specs.declared.types.MaybeLen.TheVariants as len

@@ -11,7 +11,8 @@ use Rattle.base.specs.Refusals.{refusal_number}
 use Rattle.base.specs.declared.types.Refusal.TheVariants as refusal
 use Rattle.base.proofs.Cases.{on-flag, cond_cases}
 use Rattle.base.proofs.RefusalLaws.{number-some}
-use Rattle.rules.specs.Event.{Open, Probe, Answer, Poll, Sweep, Close, is, number_of, value_of}
+use Rattle.ring.specs.Lapse.{is_passed, defer_of}
+use Rattle.rules.specs.Event.{Open, Probe, Answer, Poll, Sweep, Close, is, bit, number_of, value_of}
 use Rattle.rules.specs.Rules.{refusals, on_slot}
 use Rattle.rules.specs.Step.{Entry, fresh_record, slot_at, step, trace}
 use Rattle.rules.specs.Book.{Book, Books, no_marks, new_book, waiting_after, noted, blanks, note, note_all}
@@ -78,7 +79,8 @@ module _ (t : Settings) where
       let l = b.probes.waiting in
       cond_cases (Every Ahead) (is Probe e) _ _ (λ q. Every-snoc Ahead l _ h (f q))
       (λ p. cond_cases (Every Ahead) (is Answer e) _ _ (λ q. Every-keep Ahead _ l h)
-      (λ a. cond_cases (Every Ahead) (is Poll e) _ _ (λ q. pass-every _ _ Ahead Ahead (λ x n k. k) (λ x u n k. k) l h)
+      (λ a. cond_cases (Every Ahead) (is Poll e) _ _ (λ q. pass-every (is_passed e.now (bit 1 e)) (defer_of b.probes.heard t.cap e.now (bit 1 e)) Ahead Ahead
+      (λ x n k. k) (λ x u n k. k) l h)
       (λ c. cond_cases (Every Ahead) (is Sweep e) [] l (λ q. tt) (λ q. h))))
 
   noted-ahead : (b : Book) (e : Event) (v : ℕ) → (is Probe e ≡ true → e.now ≤ e.span) → Aheads b

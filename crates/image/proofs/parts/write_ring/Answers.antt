@@ -1,0 +1,17 @@
+use borrow.Author.Rules.{rules}
+use mathlib.Core.Path.{refl}
+use Rattle.image.specs.Image.{sent_words}
+use Rattle.image.proofs.PartLaws.{putting-start, putting-next, putting-end, refused_all}
+use Rattle.image.proofs.parts.write_ring.Goals as goal
+
+pub returns-then-out-lt320 : goal.returns-then-out-lt320
+returns-then-out-lt320 c = refused_all sent_words _ 8 (λ x. refl) (search rules) c.if-out-lt320.true
+
+pub loop-i-init : goal.loop-i-init
+loop-i-init c = putting-start (λ x. refl) (search rules) c.if-out-lt320.false
+
+pub loop-i-preserved : goal.loop-i-preserved
+loop-i-preserved c = putting-next c.loop-i.invariant c.loop-i-test.true _ c.sent_words-w.ensures c.put_words.ensures.1
+
+pub returns : goal.returns
+returns c = putting-end c.loop-i.invariant c.loop-i-test.false

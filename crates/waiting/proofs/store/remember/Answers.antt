@@ -1,0 +1,5 @@
+use Rattle.waiting.proofs.LateLaws.{late-shifted}
+use Rattle.waiting.proofs.store.remember.Goals as goal
+
+pub returns : goal.returns
+returns c = late-shifted c.args.p.now c.rows.ensures.1 _ c.move_late.ensures c.move_late-2.ensures c.move_late-3.ensures c.set_late.ensures
