@@ -1,6 +1,6 @@
 -- Portions of any lengths, fed one after the other, give the lines of all bytes.
 -- Assumes nothing.
-use Rattle.std.proofs.Common.{◌≡◌, ℕ, zero, suc, ◌+◌, ◌≤◌, Bool, false, cond, List, [], ◌∷◌, ◌++◌, length, drop, sym, ap, ◌∙◌, subst, append_assoc, append-nil, arith, length-drop}
+use Rattle.std.proofs.Common.{◌≡◌, ℕ, zero, suc, ◌≤◌, Bool, false, cond, List, [], ◌∷◌, ◌++◌, length, drop, sym, ap, ◌∙◌, subst, append_assoc, append-nil, arith, length-drop}
 use Rattle.base.proofs.Cases.{on-flag}
 use Rattle.session.specs.Sessions.{Session, begun, ran_of, last_of}
 use Rattle.session.specs.Portions.{Fed, written_before, left_by, calls, fed, joined, PortionsHold}

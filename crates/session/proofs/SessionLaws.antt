@@ -8,7 +8,6 @@ use Rattle.base.proofs.Cases.{on-flag, on-order, never}
 use Rattle.octets.proofs.Read.{read_more}
 use Rattle.rules.specs.Step.{step, allowed, fresh_record, trace}
 use Rattle.rules.specs.declared.types.Record.{Record}
-use Rattle.rules.specs.declared.types.Settings.{Settings}
 use Rattle.eventfile.specs.File.{settings_of, events_of, ending_of, from, parse_of}
 use Rattle.eventfile.specs.declared.types.Parse.{Parse}
 use Rattle.eventfile.specs.declared.types.Parse.TheVariants as parse

@@ -9,10 +9,10 @@ returns-then-gap-ge-DURATION_END c = judge-gap _ _ _ _ c.if-timeout-ge-DURATION_
 
 pub returns-then-judges : goal.returns-then-judges
 returns-then-judges c =
-    judge-lost _ _ _ _ c.if-timeout-ge-DURATION_END.false c.if-gap-ge-DURATION_END.false c.sizes-old.ensures
-    c.ids-ids.ensures c.judges.ensures c.if-judges.true c.known.ensures c.drop_out-judged.ensures c.set_seek.ensures
+    judge-lost _ _ _ _ c.if-timeout-ge-DURATION_END.false c.if-gap-ge-DURATION_END.false c.sizes-old.ensures c.ids-ids.ensures
+    c.judges.ensures c.if-judges.true c.known.ensures c.drop_out-judged.ensures c.set_seek.ensures
 
 pub returns : goal.returns
 returns c =
-    judge-waits _ _ _ _ c.if-timeout-ge-DURATION_END.false c.if-gap-ge-DURATION_END.false c.sizes-old.ensures
-    c.ids-ids.ensures c.judges.ensures c.if-judges.false
+    judge-waits _ _ _ _ c.if-timeout-ge-DURATION_END.false c.if-gap-ge-DURATION_END.false c.sizes-old.ensures c.ids-ids.ensures
+    c.judges.ensures c.if-judges.false

@@ -11,5 +11,5 @@ returns-in_default c = search-none _ c.args.e c.label-label.ensures c.if-full-lt
 pub returns : goal.returns
 returns c =
     search-sent _ c.args.e c.label-label.ensures c.if-full-lt-PATH_PROBE_MIN_SIZE.false c.sizes-old.ensures
-    c.seek_size-proposal.ensures c.in-Some.is (search rules) c.ids-before.ensures c.taken-id.ensures
-    c.next_ids-after.ensures c.seek_send-sent.ensures c.set_id.ensures c.set_seek.ensures
+    c.seek_size-proposal.ensures c.in-Some.is (search rules) c.ids-before.ensures c.taken-id.ensures c.next_ids-after.ensures
+    c.seek_send-sent.ensures c.set_id.ensures c.set_seek.ensures
