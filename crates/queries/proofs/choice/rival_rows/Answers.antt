@@ -1,13 +1,11 @@
-use borrow.Author.Rules.{rules}
-use Prim.Native.Nat.{◌-◌}
 use mathlib.Core.List.{[]}
 use mathlib.Core.Path.{sym, ap, ◌∙◌}
-use lib.ListN.{length-map, get_or-map}
+use lib.ListN.{get_or-map}
 use Rattle.select.specs.Slim.{slim_of}
 use Rattle.rules.specs.Step.{rival_of}
 use Rattle.rules.specs.declared.types.Slot.{Slot}
 use Rattle.rows.specs.View.{slot_in}
-use Rattle.queries.proofs.ChoiceLaws.{rowing_start, rowing-next, rowing-end}
+use Rattle.queries.proofs.ChoiceLaws.{rowing-next}
 use Rattle.queries.proofs.choice.rival_rows.Goals as goal
 
 pub loop-i-preserved : goal.loop-i-preserved

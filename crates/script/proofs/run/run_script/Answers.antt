@@ -1,9 +1,8 @@
 use borrow.Author.Rules.{rules}
-use Prim.Native.Nat.{◌-◌}
 use native.Mathlib.Omega.{arith}
 use mathlib.Core.Path.{ap, ◌∙◌}
 use Rattle.script.specs.Run.{call_from}
-use Rattle.script.proofs.RunLaws.{running-start, running-room, running-end, running-next, running-done, running-fits, tail_from, script-cut, script-lent, script-done}
+use Rattle.script.proofs.RunLaws.{running-start, running-next, running-done, tail_from, script-cut, script-lent, script-done}
 use Rattle.script.proofs.run.run_script.Goals as goal
 
 pub returns-then-script-ne0 : goal.returns-then-script-ne0
