@@ -4,7 +4,7 @@
 use Rattle.std.proofs.Common.{◌≡◌, ℕ, Bool, true, false, cond, not, ◌&&◌, ◌||◌, ltb, List, [], ◌∷◌, ◌++◌, sym, refl, ap, ◌∙◌, arith, ltb-false, ltb-true, le-ltb}
 use mathlib.Core.List.{foldl}
 use borrow.Author.Tests.{not-true}
-use Rattle.base.specs.Seq.{every, keep}
+use Rattle.std.specs.List.{list_all, filter}
 use Rattle.base.specs.First.{head_of, unbeaten, first_of}
 use Rattle.base.proofs.Cases.{on-flag, never}
 use Rattle.base.proofs.KeepLaws.{every-head, every-right, keep_same}
@@ -37,7 +37,7 @@ pub record First {A : Type 0} (before : A → A → Bool) (l : List A) (x : A) :
   pub front : List A
   pub back : List A
   pub there : l ≡ front ++ (x ∷ back)
-  pub ahead : every (before x) front ≡ true
+  pub ahead : list_all (before x) front ≡ true
   pub over : unbeaten before l x ≡ true
 
 -- none that stands in the list comes before its first
@@ -45,14 +45,14 @@ pub first-over : {A : Type 0} {before : A → A → Bool} {l : List A} {x : A} �
     → l ≡ a ++ (y ∷ b) → before y x ≡ false
 first-over {A} {before} {l} {x} f a b y e =
     let p : A → Bool = λ z. not (before z x) in
-    let h : every p (a ++ (y ∷ b)) ≡ true = sym (ap (every p) e) ∙ f.over in
+    let h : list_all p (a ++ (y ∷ b)) ≡ true = sym (ap (list_all p) e) ∙ f.over in
     not-true (before y x) (every-head p y b (every-right p a (y ∷ b) h))
 
 -- what each of the list passes, its first passes
 pub first_passes : {A : Type 0} {before : A → A → Bool} {l : List A} {x : A} (p : A → Bool) → First before l x
-    → every p l ≡ true → p x ≡ true
+    → list_all p l ≡ true → p x ≡ true
 first_passes {A} {before} {l} {x} p f e =
-    every-head p x f.back (every-right p f.front (x ∷ f.back) (sym (ap (every p) f.there) ∙ e))
+    every-head p x f.back (every-right p f.front (x ∷ f.back) (sym (ap (list_all p) f.there) ∙ e))
 
 module _ {A : Type 0} {before : A → A → Bool} (order : Strict before) where
   -- none comes before itself
@@ -104,7 +104,7 @@ module _ {A : Type 0} {before : A → A → Bool} (order : Strict before) where
         (b ∷ x ∷ l)
         ∙ out (unbeaten before (x ∷ l)) (rw h))
       where
-        out : (p : A → Bool) → p b ≡ false → keep p (b ∷ x ∷ l) ≡ keep p (x ∷ l)
+        out : (p : A → Bool) → p b ≡ false → filter p (b ∷ x ∷ l) ≡ filter p (x ∷ l)
         out p e = rw e
 
     first-level : (b x : A) (l : List A) → before x b ≡ false
@@ -115,7 +115,7 @@ module _ {A : Type 0} {before : A → A → Bool} (order : Strict before) where
         ∙ second (unbeaten before (b ∷ l)) (λ e. unbeaten-over b x (b ∷ l) h e)
       where
         second : (p : A → Bool) → (p x ≡ true → p b ≡ true)
-            → head_of none some (keep p (b ∷ x ∷ l)) ≡ head_of none some (keep p (b ∷ l))
+            → head_of none some (filter p (b ∷ x ∷ l)) ≡ head_of none some (filter p (b ∷ l))
         second p f =
             on-flag (p b)
             (λ q. rw q)
@@ -165,7 +165,7 @@ module _ {A : Type 0} {before : A → A → Bool} (order : Strict before) where
         let w : unbeaten before (b ∷ x ∷ l) y ≡ true = without-level b x y l h ∙ f.over in
         (y, go f.front f.there f.ahead w, first-level b x l h ∙ e)
       where
-        go : (front : List A) → b ∷ l ≡ front ++ (y ∷ f.back) → every (before y) front ≡ true
+        go : (front : List A) → b ∷ l ≡ front ++ (y ∷ f.back) → list_all (before y) front ≡ true
             → unbeaten before (b ∷ x ∷ l) y ≡ true → First before (b ∷ x ∷ l) y
         go [] t a w =
             let z : b ≡ y = cc in

@@ -1,12 +1,10 @@
 -- The least and the largest of a list (specs/Least.antt): a bound and a member; the passes that find them.
 -- Assumes nothing.
-use Rattle.std.proofs.Common.{◌≡◌, ℕ, ◌≤◌, Bool, true, false, List, [], ◌∷◌, ◌++◌, map, sym, refl, ap, ◌∙◌, subst, arith, ltb-false, le-ltb, lt-ltb}
+use Rattle.std.proofs.Common.{◌≡◌, ℕ, ◌≤◌, min, max, Bool, true, false, List, [], ◌∷◌, ◌++◌, map, sym, refl, ap, ◌∙◌, subst, arith, ltb-false, le-ltb, lt-ltb, Option, None, Some}
 use mathlib.Core.List.{foldl}
-use Rattle.base.specs.Seq.{keep}
+use Rattle.std.specs.List.{filter, fold, reduce}
 use Rattle.base.specs.Least.{below, above, least_of, largest_of}
 use Rattle.base.specs.Passes.{lower_of, higher_of}
-use Rattle.base.specs.declared.types.MaybeTime.{MaybeTime}
-use Rattle.base.specs.declared.types.MaybeTime.TheVariants.{None, Some}
 use Rattle.base.proofs.Cases.{on-order}
 use Rattle.base.proofs.ScanLaws.{Folding, folding-end}
 use Rattle.base.proofs.FirstLaws.{Strict, First, by-least, by-greatest, first-over, pass-first, first-cases}
@@ -19,11 +17,11 @@ above-strict = by-greatest (λ (n : ℕ). n)
 
 -- ---- a bound and a member
 
-pub least-cases : (P : MaybeTime → Type 0) (l : List ℕ) → (l ≡ [] → P None) → ((m : ℕ) → First below l m → P (Some m))
+pub least-cases : (P : Option ℕ → Type 0) (l : List ℕ) → (l ≡ [] → P None) → ((m : ℕ) → First below l m → P (Some m))
     → P (least_of l)
 least-cases = first-cases below-strict None Some
 
-pub largest-cases : (P : MaybeTime → Type 0) (l : List ℕ) → (l ≡ [] → P None) → ((m : ℕ) → First above l m → P (Some m))
+pub largest-cases : (P : Option ℕ → Type 0) (l : List ℕ) → (l ≡ [] → P None) → ((m : ℕ) → First above l m → P (Some m))
     → P (largest_of l)
 largest-cases = first-cases above-strict None Some
 
@@ -40,11 +38,11 @@ none_is_lem : {C : Type 0} (m : ℕ) → None ≡ Some m → C
 none_is_lem m e = let z : ◌≡◌ {A = ℕ} 0 1 = let y : true ≡ false = cc in cc in absurd (omega arith)
 
 least_first : (l : List ℕ) (m : ℕ) → least_of l ≡ Some m → First below l m
-least_first l m = least-cases (λ (t : MaybeTime). t ≡ Some m → First below l m) l (λ h e. none_is_lem m e)
+least_first l m = least-cases (λ (t : Option ℕ). t ≡ Some m → First below l m) l (λ h e. none_is_lem m e)
     (λ k f e. some_is k m f e)
 
 largest-first : (l : List ℕ) (m : ℕ) → largest_of l ≡ Some m → First above l m
-largest-first l m = largest-cases (λ (t : MaybeTime). t ≡ Some m → First above l m) l (λ h e. none_is_lem m e)
+largest-first l m = largest-cases (λ (t : Option ℕ). t ≡ Some m → First above l m) l (λ h e. none_is_lem m e)
     (λ k f e. some_is k m f e)
 
 pub least-member : (l : List ℕ) (m : ℕ) → least_of l ≡ Some m → In l m
@@ -64,7 +62,7 @@ largest-bound l m y e i = ltb-false m y (first-over (largest-first l m e) i.fron
 -- none is the least of an empty list only
 pub least-there : (l : List ℕ) (y : ℕ) → In l y → (m : ℕ) × (least_of l ≡ Some m)
 least-there l y i =
-    least-cases (λ (t : MaybeTime). (m : ℕ) × (t ≡ Some m)) l
+    least-cases (λ (t : Option ℕ). (m : ℕ) × (t ≡ Some m)) l
     (λ e. no-empty i.front (sym e ∙ i.there))
     (λ m f. (m, refl))
   where
@@ -84,10 +82,27 @@ largest-pass = pass-first above-strict None Some higher_of (λ x. refl)
     (λ a x. on-order a x (λ h. rw (lt-ltb a x h) (ap Some (omega arith)))
     (λ h. rw (le-ltb a x h) (ap Some (omega arith))))
 
--- at the end of a loop that folds what g makes of the elements that pass
-module _ {A : Type 0} {p : A → Bool} {g : A → ℕ} {l : List A} {n : ℕ} {b : MaybeTime} {i : ℕ} where
-  pub folding-least : Folding p g lower_of None l n b i → n ≤ i → b ≡ least_of (map g (keep p l))
-  folding-least s h = folding-end s h ∙ least-pass (map g (keep p l))
+-- what `Iterator::min` and `max` give, and what `fold` with `lower_of` or `higher_of` does
+lower-from : (a : ℕ) (l : List ℕ) → Some (fold min a l) ≡ foldl lower_of (Some a) l
+lower-from a [] = refl
+lower-from a (x ∷ l) = lower-from (min a x) l
 
-  pub folding-largest : Folding p g higher_of None l n b i → n ≤ i → b ≡ largest_of (map g (keep p l))
-  folding-largest s h = folding-end s h ∙ largest-pass (map g (keep p l))
+higher-from : (a : ℕ) (l : List ℕ) → Some (fold max a l) ≡ foldl higher_of (Some a) l
+higher-from a [] = refl
+higher-from a (x ∷ l) = higher-from (max a x) l
+
+pub least_reduce : (l : List ℕ) → reduce min l ≡ least_of l
+least_reduce [] = refl
+least_reduce (x ∷ l) = lower-from x l ∙ least-pass (x ∷ l)
+
+pub largest_reduce : (l : List ℕ) → reduce max l ≡ largest_of l
+largest_reduce [] = refl
+largest_reduce (x ∷ l) = higher-from x l ∙ largest-pass (x ∷ l)
+
+-- at the end of a loop that folds what g makes of the elements that pass
+module _ {A : Type 0} {p : A → Bool} {g : A → ℕ} {l : List A} {n : ℕ} {b : Option ℕ} {i : ℕ} where
+  pub folding-least : Folding p g lower_of None l n b i → n ≤ i → b ≡ least_of (map g (filter p l))
+  folding-least s h = folding-end s h ∙ least-pass (map g (filter p l))
+
+  pub folding-largest : Folding p g higher_of None l n b i → n ≤ i → b ≡ largest_of (map g (filter p l))
+  folding-largest s h = folding-end s h ∙ largest-pass (map g (filter p l))

@@ -1,5 +1,6 @@
 pub mod Cases
 pub mod KeepLaws
+pub mod MapLaws
 pub mod FirstLaws
 pub mod LeastLaws
 pub mod SeqLaws

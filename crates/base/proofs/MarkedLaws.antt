@@ -4,7 +4,7 @@
 use Rattle.std.proofs.Common.{◌≡◌, ℕ, zero, suc, ◌+◌, ◌<◌, ◌≤◌, Bool, true, false, not, ◌&&◌, ◌||◌, List, [], ◌∷◌, length, get_or, sym, refl, ◌∙◌, add-one, arith}
 use borrow.Author.Tests.{not-true, not-false}
 use lib.ListN.{get_or-eq_default}
-use Rattle.base.specs.Seq.{every, keep}
+use Rattle.std.specs.List.{list_all, filter}
 use Rattle.base.specs.First.{unbeaten}
 use Rattle.base.specs.Marked.{first_gap, leads, first_leader, last_leader, place}
 use Rattle.base.specs.Passes.{overtakes, catches}
@@ -168,7 +168,7 @@ module _ {A : Type 0} {held : A → Bool} {before : A → A → Bool} {d : A} {l
   module _ {side : ℕ → ℕ → Type 0} {b : A} {k i : ℕ} (s : Leading held before d side l n b k i) (all : n ≤ i) where
     leader : held b ≡ true → leads held before l (get_or l k d) ≡ true
     leader q =
-        let e : unbeaten before (keep held l) b ≡ true =
+        let e : unbeaten before (filter held l) b ≡ true =
         every-keep-of d held (λ (y : A). not (before y b)) l (λ j m r. rw
         (s.lead j (omega (arith, s.long, s.upto)) r))
         in
@@ -180,7 +180,7 @@ module _ {A : Type 0} {held : A → Bool} {before : A → A → Bool} {d : A} {l
         on-flag (held (get_or l j d))
         (λ t.
         let e : before (get_or l k d) (get_or l j d) ≡ true = rw s.best at (s.edge j (omega arith) r t) in
-        on-flag (unbeaten before (keep held l) (get_or l j d))
+        on-flag (unbeaten before (filter held l) (get_or l j d))
         (λ y.
         let x : held (get_or l k d) ≡ true = rw s.best at q in
         let z : not (before (get_or l k d) (get_or l j d)) ≡ true =
@@ -218,14 +218,14 @@ module _ {A : Type 0} {held : A → Bool} {before : A → A → Bool} {d : A} {l
 
 module _ {A : Type 0} (held : A → Bool) where
   -- a gap is found exactly where not each place is held
-  pub gap-full : (l : List A) → length l ≤ first_gap held l → every held l ≡ true
+  pub gap-full : (l : List A) → length l ≤ first_gap held l → list_all held l ≡ true
   gap-full [] h = refl
   gap-full (x ∷ l) h =
       on-flag (held x)
       (λ q. rw q (gap-full l (omega (arith, rw q at h))))
       (λ q. absurd (omega (arith, rw q at h)))
 
-  pub gap-some : (l : List A) → first_gap held l < length l → every held l ≡ false
+  pub gap-some : (l : List A) → first_gap held l < length l → list_all held l ≡ false
   gap-some [] h = absurd (omega arith)
   gap-some (x ∷ l) h =
       on-flag (held x)
@@ -254,7 +254,7 @@ module _ {A : Type 0} (held : A → Bool) (before : A → A → Bool) (order : S
           (λ e. (get_or l i d, i, rw add-one at (first-take order s h e)))
           (λ e. (b, k, rw add-one at (first-skip order s h e)))
 
-  pub leader-there : every held l ≡ true → 0 < length l → first_leader held before l < length l
+  pub leader-there : list_all held l ≡ true → 0 < length l → first_leader held before l < length l
   leader-there e h = go (passes (length l) (omega arith))
     where
       go : (b : A) × (k : ℕ) × LeadsFirst held before d l (length l) b k (length l)
@@ -265,7 +265,7 @@ module _ {A : Type 0} (held : A → Bool) (before : A → A → Bool) (order : S
 
   pub place-there : 0 < length l → place held before l < length l
   place-there h =
-      on-flag (every held l)
+      on-flag (list_all held l)
       (λ q. rw q (leader-there q h))
       (λ q.
       rw q

@@ -5,7 +5,8 @@ use Rattle.std.proofs.Common.{◌≡◌, ℕ, zero, suc, ◌+◌, ◌<◌, ◌�
 use mathlib.Core.List.{foldl, foldl-append}
 use lib.ListN.{length-map}
 use lib.Seq.{set_at, set_split, append_snoc}
-use Rattle.base.specs.Seq.{position, every, keep}
+use Rattle.std.specs.List.{list_all, filter}
+use Rattle.base.specs.Seq.{position}
 use Rattle.base.specs.Marked.{last_position}
 use Rattle.base.proofs.Cases.{on-flag}
 use Rattle.base.proofs.SeqLaws.{keep_append}
@@ -54,7 +55,7 @@ pub record Folding {A B C : Type 0} (p : A → Bool) (g : A → C) (f : B → C 
     (i : ℕ) : Type 0 where
   pub long : length l ≡ n
   pub upto : i ≤ n
-  pub done : b ≡ foldl f z (map g (keep p (take i l)))
+  pub done : b ≡ foldl f z (map g (filter p (take i l)))
 
 module _ {A B C : Type 0} {p : A → Bool} {g : A → C} {f : B → C → B} {z : B} {l : List A} {n : ℕ} where
   pub folding-start : length l ≡ n → Folding p g f z l n z 0
@@ -65,7 +66,7 @@ module _ {A B C : Type 0} {p : A → Bool} {g : A → C} {f : B → C → B} {z 
         → Folding p g f z l n v (i + 1)
     folding-take s h e m =
         let k : i < length l = omega arith in
-        let q : keep p (take (suc i) l) ≡ keep p (take i l) ++ (get_or l i d ∷ []) = simp (take-suc l i d, keep_append, e)
+        let q : filter p (take (suc i) l) ≡ filter p (take i l) ++ (get_or l i d ∷ []) = simp (take-suc l i d, keep_append, e)
         in
         rw add-one
         (record { long = s.long; upto = h; done = rw (q, map-append, foldl-append, sym s.done) m })
@@ -73,10 +74,10 @@ module _ {A B C : Type 0} {p : A → Bool} {g : A → C} {f : B → C → B} {z 
     pub folding-skip : Folding p g f z l n b i → i < n → p (get_or l i d) ≡ false → Folding p g f z l n b (i + 1)
     folding-skip s h e =
         let k : i < length l = omega arith in
-        let q : keep p (take (suc i) l) ≡ keep p (take i l) = simp (take-suc l i d, keep_append, e, append-nil) in
+        let q : filter p (take (suc i) l) ≡ filter p (take i l) = simp (take-suc l i d, keep_append, e, append-nil) in
         rw add-one (record { long = s.long; upto = h; done = rw q s.done })
 
-  pub folding-end : {b : B} {i : ℕ} → Folding p g f z l n b i → n ≤ i → b ≡ foldl f z (map g (keep p l))
+  pub folding-end : {b : B} {i : ℕ} → Folding p g f z l n b i → n ≤ i → b ≡ foldl f z (map g (filter p l))
   folding-end {b} {i} s h =
       let k : length l ≤ i = omega arith in
       rw (take_all i l) at s.done
@@ -88,7 +89,7 @@ pub record Counting {A : Type 0} (p : A → Bool) (l : List A) (n c i : ℕ) : T
   pub long : length l ≡ n
   pub upto : i ≤ n
   pub some : c ≤ i
-  pub done : c ≡ length (keep p (take i l))
+  pub done : c ≡ length (filter p (take i l))
 
 module _ {A : Type 0} {p : A → Bool} {l : List A} {n : ℕ} where
   pub counting-start : length l ≡ n → Counting p l n 0 0
@@ -98,7 +99,7 @@ module _ {A : Type 0} {p : A → Bool} {l : List A} {n : ℕ} where
     pub counting-take : Counting p l n c i → i < n → p (get_or l i d) ≡ true → Counting p l n (c + 1) (i + 1)
     counting-take s h e =
         let k : i < length l = omega arith in
-        let q : keep p (take (suc i) l) ≡ keep p (take i l) ++ (get_or l i d ∷ []) = simp (take-suc l i d, keep_append, e)
+        let q : filter p (take (suc i) l) ≡ filter p (take i l) ++ (get_or l i d ∷ []) = simp (take-suc l i d, keep_append, e)
         in
         rw (add-one i)
         (record { long = s.long; upto = h; some = omega arith; done = rw (q, length-append) (omega arith) })
@@ -106,10 +107,10 @@ module _ {A : Type 0} {p : A → Bool} {l : List A} {n : ℕ} where
     pub counting-skip : Counting p l n c i → i < n → p (get_or l i d) ≡ false → Counting p l n c (i + 1)
     counting-skip s h e =
         let k : i < length l = omega arith in
-        let q : keep p (take (suc i) l) ≡ keep p (take i l) = simp (take-suc l i d, keep_append, e, append-nil) in
+        let q : filter p (take (suc i) l) ≡ filter p (take i l) = simp (take-suc l i d, keep_append, e, append-nil) in
         rw add-one (record { long = s.long; upto = h; some = omega arith; done = rw q s.done })
 
-  pub counting-end : {c i : ℕ} → Counting p l n c i → n ≤ i → c ≡ length (keep p l)
+  pub counting-end : {c i : ℕ} → Counting p l n c i → n ≤ i → c ≡ length (filter p l)
   counting-end {c} {i} s h =
       let k : length l ≤ i = omega arith in
       rw (take_all i l) at s.done
@@ -117,36 +118,36 @@ module _ {A : Type 0} {p : A → Bool} {l : List A} {n : ℕ} where
 -- ---- tests of a list by index
 
 module _ {A : Type 0} (d : A) where
-  pub every-at : (p : A → Bool) (l : List A) (j : ℕ) → every p l ≡ true → j < length l → p (get_or l j d) ≡ true
+  pub every-at : (p : A → Bool) (l : List A) (j : ℕ) → list_all p l ≡ true → j < length l → p (get_or l j d) ≡ true
   every-at p [] j e h = absurd (omega arith)
   every-at p (x ∷ l) zero e h = on-flag (p x) (λ q. q) (λ q. let y : true ≡ false = sym (rw q at e) in cc)
   every-at p (x ∷ l) (suc j) e h =
       on-flag (p x) (λ q. every-at p l j (rw q at e) (omega arith)) (λ q. let y : true ≡ false = sym (rw q at e) in cc)
 
-  pub every_of : (p : A → Bool) (l : List A) → ((j : ℕ) → j < length l → p (get_or l j d) ≡ true) → every p l ≡ true
+  pub every_of : (p : A → Bool) (l : List A) → ((j : ℕ) → j < length l → p (get_or l j d) ≡ true) → list_all p l ≡ true
   every_of p [] f = refl
   every_of p (x ∷ l) f =
       let q : p x ≡ true = f 0 (omega arith) in
       rw q (every_of p l (λ j h. f (suc j) (omega arith)))
 
   -- of the elements that are held
-  pub every-keep-at : (t p : A → Bool) (l : List A) (j : ℕ) → every p (keep t l) ≡ true → j < length l
+  pub every-keep-at : (t p : A → Bool) (l : List A) (j : ℕ) → list_all p (filter t l) ≡ true → j < length l
       → t (get_or l j d) ≡ true → p (get_or l j d) ≡ true
   every-keep-at t p [] j e h k = absurd (omega arith)
   every-keep-at t p (x ∷ l) zero e h k =
-      let m : every p (x ∷ keep t l) ≡ true = rw k at e in
+      let m : list_all p (x ∷ filter t l) ≡ true = rw k at e in
       on-flag (p x) (λ q. q) (λ q. let y : true ≡ false = sym (rw q at m) in cc)
   every-keep-at t p (x ∷ l) (suc j) e h k =
       on-flag (t x)
       (λ q.
-      let m : every p (x ∷ keep t l) ≡ true = rw q at e in
+      let m : list_all p (x ∷ filter t l) ≡ true = rw q at e in
       on-flag (p x)
       (λ r. every-keep-at t p l j (rw r at m) (omega arith) k)
       (λ r. let y : true ≡ false = sym (rw r at m) in cc))
       (λ q. every-keep-at t p l j (rw q at e) (omega arith) k)
 
   pub every-keep-of : (t p : A → Bool) (l : List A)
-      → ((j : ℕ) → j < length l → t (get_or l j d) ≡ true → p (get_or l j d) ≡ true) → every p (keep t l) ≡ true
+      → ((j : ℕ) → j < length l → t (get_or l j d) ≡ true → p (get_or l j d) ≡ true) → list_all p (filter t l) ≡ true
   every-keep-of t p [] f = refl
   every-keep-of t p (x ∷ l) f =
       on-flag (t x)
@@ -176,12 +177,12 @@ module _ {A : Type 0} (d : A) where
       → ((j : ℕ) → k < j → j < length l → p (get_or l j d) ≡ false) → k ≡ last_position p l
   last-is p [] k h e f = absurd (omega arith)
   last-is p (x ∷ l) zero h e f =
-      let q : every (λ (y : A). not (p y)) l ≡ true = every_of (λ (y : A). not (p y)) l
+      let q : list_all (λ (y : A). not (p y)) l ≡ true = every_of (λ (y : A). not (p y)) l
       (λ j m. rw (f (suc j) (omega arith) (omega arith))) in
       rw (e, q)
   last-is p (x ∷ l) (suc k) h e f =
-      let q : every (λ (y : A). not (p y)) l ≡ false =
-      on-flag (every (λ (y : A). not (p y)) l)
+      let q : list_all (λ (y : A). not (p y)) l ≡ false =
+      on-flag (list_all (λ (y : A). not (p y)) l)
       (λ m. let y : false ≡ true = rw e at (every-at (λ (y : A). not (p y)) l k m (omega arith)) in cc)
       (λ m. m)
       in
@@ -200,5 +201,5 @@ module _ {A : Type 0} (d : A) where
 
 module _ {A : Type 0} (p : A → Bool) where
   pub keep-set : (l : List A) (i : ℕ) (x : A) → i < length l → p x ≡ true
-      → keep p (set l i x) ≡ keep p (take i l) ++ (x ∷ keep p (drop (suc i) l))
+      → filter p (set l i x) ≡ filter p (take i l) ++ (x ∷ filter p (drop (suc i) l))
   keep-set l i x h e = rw (set_split l i x h, keep_append, e)

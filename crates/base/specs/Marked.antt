@@ -1,14 +1,15 @@
 -- Arrays whose places are held or gaps (document 01, "RTT, ETX, score": "the first gap", "the oldest (first of
 -- equals)", "the newest (last of equals)"), over any element type, any mark of being held, and any order.
 use Rattle.std.specs.Prelude.{ℕ, suc, Bool, cond, not, ◌&&◌, List, [], ◌∷◌}
-use Rattle.base.specs.Seq.{position, every, keep}
+use Rattle.std.specs.List.{list_all, filter}
+use Rattle.base.specs.Seq.{position}
 use Rattle.base.specs.First.{unbeaten}
 
-module _ {ℓ} {A : Type ℓ} where
+module _ {A : Type 0} where
   -- the place of the last element that passes the test, or the length
   abbrev pub last_position : (A → Bool) → List A → ℕ
   last_position p [] = 0
-  last_position p (x ∷ xs) = cond (p x && every (λ y. not (p y)) xs) 0 (suc (last_position p xs))
+  last_position p (x ∷ xs) = cond (p x && list_all (λ y. not (p y)) xs) 0 (suc (last_position p xs))
 
   module _ (held : A → Bool) where
     -- the place of the first gap, or the length
@@ -19,7 +20,7 @@ module _ {ℓ} {A : Type ℓ} where
     module _ (before : A → A → Bool) where
       -- x is held, and no held one comes before it
       abbrev pub leads : List A → A → Bool
-      leads l x = held x && unbeaten before (keep held l) x
+      leads l x = held x && unbeaten before (filter held l) x
 
       -- the place of the leader, the first of equals, or the length where none is held
       abbrev pub first_leader : List A → ℕ
@@ -31,4 +32,4 @@ module _ {ℓ} {A : Type ℓ} where
 
       -- the place for a new one: the first gap, else the leader's place (first of equals)
       abbrev pub place : List A → ℕ
-      place l = cond (every held l) (first_leader l) (first_gap l)
+      place l = cond (list_all held l) (first_leader l) (first_gap l)

@@ -3,8 +3,6 @@ ghost use Rattle.std.specs.Prelude.{◌≡◌};
 ghost use Rattle.base.specs.Passes.{lower_of, higher_of};
 ghost use Rattle.base.specs.Time.{deadline_of, elapsed_of};
 
-use crate::types::MaybeTime;
-
 // t + d; while that passes 2^64 - 1, d is halved. The only place that adds to an instant.
 pub fn deadline(t: u64, d: u64) -> u64
     ensures { result ≡ deadline_of 64 t d }
@@ -25,21 +23,15 @@ pub fn elapsed(now: u64, from: u64) -> u64
 }
 
 // The least so far, with one more.
-pub fn lower(least: MaybeTime, x: u64) -> MaybeTime
+pub fn lower(least: Option<u64>, x: u64) -> Option<u64>
     ensures { result ≡ lower_of least x }
 {
-    match least {
-        MaybeTime::None => MaybeTime::Some(x),
-        MaybeTime::Some(t) => MaybeTime::Some(crate::num::min_u64(t, x)),
-    }
+    Some(least.map_or(x, |t| t.min(x)))
 }
 
 // The largest so far, with one more.
-pub fn higher(largest: MaybeTime, x: u64) -> MaybeTime
+pub fn higher(largest: Option<u64>, x: u64) -> Option<u64>
     ensures { result ≡ higher_of largest x }
 {
-    match largest {
-        MaybeTime::None => MaybeTime::Some(x),
-        MaybeTime::Some(t) => MaybeTime::Some(crate::num::max_u64(t, x)),
-    }
+    Some(largest.map_or(x, |t| t.max(x)))
 }

@@ -1,31 +1,10 @@
-// What may be missing, an enum for each type, and the refusals.
+// The refusals.
 ghost use Rattle.std.specs.Prelude.{◌≡◌};
 ghost use Rattle.base.specs.Refusals.{refusal_number};
 
-// An identifier, or none.
-#[derive(Clone, Copy)]
-pub enum MaybeId {
-    None,
-    Some(u32),
-}
-
-// An instant or a duration in nanoseconds, or none.
-#[derive(Clone, Copy)]
-pub enum MaybeTime {
-    None,
-    Some(u64),
-}
-
-// A length in bytes, or none.
-#[derive(Clone, Copy)]
-pub enum MaybeLen {
-    None,
-    Some(u16),
-}
-
 // Document 01's refusals, in the order of its table, then document 02's; `refusal_number` in specs/Refusals.antt has
 // their numbers.
-#[derive(Clone, Copy)]
+#[derive(Clone, Copy, Debug, PartialEq, Eq)]
 pub enum Refusal {
     Slot,
     Empty,

@@ -1,6 +1,6 @@
 -- What the functions on a record in lent words reply, and what they leave there: peer's definitions, with an answer
 -- as its number and its value. t are the four words of the settings, a the eight slots before and b those after.
-use Rattle.std.specs.Prelude.{ℕ, ◌+◌, ◌*◌, ◌^◌, ◌/◌, ◌%◌, ◌≡◌, List}
+use Rattle.std.specs.Prelude.{ℕ, ◌+◌, ◌*◌, ◌^◌, ◌/◌, ◌%◌, ◌≡◌, List, Result}
 use Rattle.base.specs.Refusals.{refusal_number}
 use Rattle.base.specs.declared.types.Refusal.{Refusal}
 use Rattle.base.specs.declared.types.Refusal.TheVariants.{Cut}
@@ -13,7 +13,6 @@ use Rattle.rules.specs.declared.types.Reply as rules
 use Rattle.eventfile.specs.declared.types.Parse.{Parse}
 use Rattle.eventfile.specs.declared.types.Parse.TheVariants as parse
 use Rattle.standing.specs.Standing.{written_number, written_value}
-use Rattle.standing.specs.declared.types.Written.{Written}
 use Rattle.rows.specs.Places.{row_count}
 use Rattle.peer.specs.Record.{record_in, Steps}
 use Rattle.c_reply.specs.declared.Reply.{Reply}
@@ -42,7 +41,7 @@ event_with kind slot flags at span id len acked =
     }
 
 -- an answer of the record, over C
-abbrev pub answer_reply : rules.Reply → Reply
+abbrev pub answer_reply : Result rules.Reply Refusal → Reply
 answer_reply x = record { number = number_of x; value = value_of x }
 
 -- an answer in one word: its upper half is the number, its lower half the value
@@ -73,5 +72,5 @@ TakenHere t a b (parse.Event e size) = Steps t a b (step (record_in t a) e).repl
 TakenHere t a b (parse.Refused why kind) = b ≡ a
 
 -- how many bytes were written, or the refusal number
-abbrev pub written_reply : Written → Reply
+abbrev pub written_reply : Result ℕ Refusal → Reply
 written_reply w = record { number = written_number w; value = written_value w }

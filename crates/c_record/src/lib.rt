@@ -17,7 +17,6 @@ use c_reply::*;
 use eventfile::types::Parse;
 use rows::places::ROWS;
 use rules::types::{Event, Settings};
-use standing::types::Written;
 
 // An answer in one word has its value below this, and its number above.
 const WORD_VALUES: u64 = 0x1_0000_0000;
@@ -33,7 +32,7 @@ pub struct Taken {
 }
 
 // An answer of the record, as a number and a value.
-fn reply_of(reply: rules::types::Reply) -> Reply
+fn reply_of(reply: Result<rules::types::Reply, Refusal>) -> Reply
     ensures { result ≡ answer_reply reply }
 {
     Reply {
@@ -66,10 +65,10 @@ pub fn new(
         × (slots.new ≡ cond (allowed s) (record_rows (fresh_record s)) slots.old) }
 {
     let s = Settings {
-        cap: cap,
-        gap: gap,
-        window: window,
-        horizon: horizon,
+        cap,
+        gap,
+        window,
+        horizon,
     };
     reply_of(peer::record::new(settings, slots, s))
 }
@@ -92,13 +91,13 @@ pub fn event(
 {
     let e = Event {
         now: at,
-        span: span,
-        id: id,
-        len: len,
-        acked: acked,
-        kind: kind,
-        slot: slot,
-        flags: flags,
+        span,
+        id,
+        len,
+        acked,
+        kind,
+        slot,
+        flags,
     };
     let words = labels::events::event_row(e);
     split(peer::record::tell(settings, slots, &words))
@@ -122,8 +121,7 @@ pub fn bytes(settings: &[u64; 4], slots: &mut [[[u64; 4]; ROWS]; 8], event: &[u8
         (result ≡ taken_by (record_in settings.now slots.old) found)
         × TakenHere settings.now slots.old slots.new found }
 {
-    let found = eventfile::record_at(event, 0);
-    match found {
+    match eventfile::record_at(event, 0) {
         Parse::End => none_taken(Refusal::Cut),
         Parse::Refused(why, kind) => none_taken(why),
         Parse::Event(e, next) => {
@@ -139,13 +137,10 @@ pub fn bytes(settings: &[u64; 4], slots: &mut [[[u64; 4]; ROWS]; 8], event: &[u8
 }
 
 // The bytes written, or the refusal.
-pub fn of_written(answer: Written) -> Reply
+pub fn of_written(answer: Result<usize, Refusal>) -> Reply
     ensures { result ≡ written_reply answer }
 {
-    match answer {
-        Written::Count(n) => give(n as u64),
-        Written::Refused(why) => refuse(why),
-    }
+    Reply::from(answer.map(|n| n as u64))
 }
 
 // Writes the standing of a slot's path; the value is the count of bytes. 1 for a slot above 7, 2 for an empty one, 16

@@ -1,9 +1,9 @@
-// What a C function gives back where a call can be refused, a number and a value; and what it is passed where a number
-// may be missing, a flag and the number.
+// What a C function gives back where a call can be refused: a number and a value. Each of the two types is C's own, with
+// its layout and name, and so has its functions.
 #![tactic(auto)]
 
 ghost use Rattle.std.specs.Prelude.{◌≡◌};
-ghost use Rattle.c_reply.specs.Replies.{refused_reply, given, no_float, given_float, maybe_len, maybe_of};
+ghost use Rattle.c_reply.specs.Replies.{refused_reply, given, no_float, given_float, answered};
 
 use base::types::*;
 
@@ -37,10 +37,7 @@ pub fn refuse(why: Refusal) -> Reply
 pub fn give(value: u64) -> Reply
     ensures { result ≡ given value }
 {
-    Reply {
-        number: 0,
-        value: value,
-    }
+    Reply { number: 0, value }
 }
 
 // A refusal where the value is a float.
@@ -57,30 +54,14 @@ pub fn refuse_float(why: Refusal) -> FloatReply
 pub fn give_float(value: f64) -> FloatReply
     ensures { result ≡ given_float value }
 {
-    FloatReply {
-        number: 0,
-        value: value,
-    }
+    FloatReply { number: 0, value }
 }
 
-// A length, if held.
-pub fn maybe_len(held: bool, n: u16) -> MaybeLen
-    ensures { result ≡ maybe_len held n }
-{
-    if held {
-        MaybeLen::Some(n)
-    } else {
-        MaybeLen::None
-    }
-}
+// What was answered: a number, or the refusal.
+impl From<Result<u64, Refusal>> for Reply {
+    ghost from_gives = { λ a r. r ≡ answered a };
 
-// A number that may be missing.
-pub fn maybe(held: bool, x: u64) -> MaybeTime
-    ensures { result ≡ maybe_of held x }
-{
-    if held {
-        MaybeTime::Some(x)
-    } else {
-        MaybeTime::None
+    fn from(answer: Result<u64, Refusal>) -> Reply {
+        answer.map_or_else(refuse, give)
     }
 }

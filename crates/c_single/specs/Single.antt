@@ -1,8 +1,7 @@
 -- What the single functions reply over C: the limits' refusal numbers, then the value.
-use Rattle.std.specs.Prelude.{ℕ, Bool, cond, ◌||◌, Float}
+use Rattle.std.specs.Prelude.{ℕ, Bool, cond, ◌||◌, Float, Option}
 use Rattle.base.specs.Limits.{is_overlong, is_undersize, is_endless}
 use Rattle.base.specs.Time.{deadline_of}
-use Rattle.base.specs.declared.types.MaybeTime.{MaybeTime}
 use Rattle.base.specs.declared.types.Refusal.TheVariants.{Length, Duration}
 use Rattle.etx.specs.Etx.{seconds_of, score_of}
 use Rattle.seek.specs.Ladder.{ladder_size}
@@ -36,6 +35,6 @@ size_reply full fallen held last = cond (is_outside full last) (refused_reply Le
     (given (ladder_size (ladder_of fallen held last) full))
 
 -- 6 for a floor or cap of 2 ^ 62 or more
-unfoldable pub timeout_reply : ℕ → ℕ → MaybeTime → MaybeTime → Reply
+unfoldable pub timeout_reply : ℕ → ℕ → Option ℕ → Option ℕ → Reply
 timeout_reply floor cap last largest =
     cond (is_endless floor || is_endless cap) (refused_reply Duration) (given (timeout_by last largest floor cap))

@@ -12,6 +12,7 @@ use c_reply::*;
 use seek::types::Ladder;
 
 // The instant d after t; 6 for a duration of 2^62 or more.
+#[tactic(auto, unfolding(crate::specs::Single::deadline_reply))]
 pub fn deadline(t: u64, d: u64) -> Reply
     ensures { result ≡ deadline_reply t d }
 {
@@ -22,6 +23,7 @@ pub fn deadline(t: u64, d: u64) -> Reply
 }
 
 // A duration in seconds; 6 for one of 2^62 or more.
+#[tactic(auto, unfolding(crate::specs::Single::seconds_reply))]
 pub fn seconds(ns: u64) -> FloatReply
     ensures { result ≡ seconds_reply ns }
 {
@@ -32,6 +34,7 @@ pub fn seconds(ns: u64) -> FloatReply
 }
 
 // The score of a path by its ETX and its least round trip; 6 for a round trip of 2^62 or more.
+#[tactic(auto, unfolding(crate::specs::Single::score_reply))]
 pub fn score(etx: f64, rtt: u64) -> FloatReply
     ensures { result ≡ score_reply etx rtt }
 {
@@ -45,10 +48,9 @@ pub fn score(etx: f64, rtt: u64) -> FloatReply
 fn ladder(fallen: bool, held: bool, last: u16) -> Ladder
     ensures { result ≡ ladder_of fallen held last }
 {
-    let some = maybe_len(held, last);
     Ladder {
-        last: some,
-        fallen: fallen,
+        last: held.then_some(last),
+        fallen,
     }
 }
 
@@ -60,6 +62,7 @@ fn outside(full: u32, last: u32) -> bool
 }
 
 // The size of the next probe of a path whose last size is `last`, if held; 5 for sizes outside the limits.
+#[tactic(auto, unfolding(crate::specs::Single::size_reply))]
 pub fn size(full: u32, fallen: bool, held: bool, last: u32) -> Reply
     ensures { result ≡ size_reply full fallen held last }
 {
@@ -67,17 +70,21 @@ pub fn size(full: u32, fallen: bool, held: bool, last: u32) -> Reply
         return refuse(Refusal::Length);
     }
     let l = ladder(fallen, held, last as u16);
-    give(ladder::size(l, full as u16) as u64)
+    give(u64::from(ladder::size(l, full as u16)))
 }
 
 // The probe timeout by the last and the largest round trip; 6 for a floor or cap of 2^62 or more.
+#[tactic(auto, unfolding(crate::specs::Single::timeout_reply))]
 pub fn timeout(floor: u64, cap: u64, timed: bool, last: u64, sampled: bool, largest: u64) -> Reply
     ensures { result ≡ timeout_reply floor cap (maybe_of timed last) (maybe_of sampled largest) }
 {
     if (DURATION_END <= floor) | (DURATION_END <= cap) {
         return refuse(Refusal::Duration);
     }
-    let l = maybe(timed, last);
-    let m = maybe(sampled, largest);
-    give(rtt::times::timeout(l, m, floor, cap))
+    give(rtt::times::timeout(
+        timed.then_some(last),
+        sampled.then_some(largest),
+        floor,
+        cap,
+    ))
 }

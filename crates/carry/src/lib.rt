@@ -5,8 +5,7 @@ ghost use Rattle.std.specs.Prelude.{◌≡◌};
 ghost use Rattle.select.specs.Carried.{heeded_of, carried_frame};
 
 use base::limits::MAX_LEN;
-use base::types::{MaybeLen, Refusal};
-use select::types::SizeAnswer;
+use base::types::Refusal;
 
 // The outer header of an established frame.
 const ESTABLISHED_HEADER_SIZE: u32 = 16;
@@ -28,20 +27,15 @@ pub fn heeded(oriented: bool) -> bool
 }
 
 // The largest frame: the link's, or that of the proven size where it is smaller and heeded.
-pub fn carried(link: u32, proven: MaybeLen, oriented: bool) -> SizeAnswer
+#[tactic(auto, unfolding(select::specs::Carried::carried_frame))]
+pub fn carried(link: u32, proven: Option<u16>, oriented: bool) -> Result<u32, Refusal>
     ensures { result ≡ carried_frame link proven oriented }
 {
     if MAX_LEN < link {
-        return SizeAnswer::Refused(Refusal::Length);
+        return Err(Refusal::Length);
     }
     match proven {
-        MaybeLen::None => SizeAnswer::Size(link),
-        MaybeLen::Some(len) => {
-            if heeded(oriented) {
-                let frame = (len as u32) + FRAME_OVERHEAD;
-                return SizeAnswer::Size(base::num::min_u32(link, frame));
-            }
-            SizeAnswer::Size(link)
-        }
+        Some(len) if heeded(oriented) => Ok(link.min(u32::from(len) + FRAME_OVERHEAD)),
+        _ => Ok(link),
     }
 }

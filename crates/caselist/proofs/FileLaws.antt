@@ -1,5 +1,6 @@
 -- Laws of a file and its lines: the room that the lines have, and whether the file agrees.
 -- Assumes nothing.
+use Rattle.std.specs.Prelude.{Result, Ok, Err}
 use Prim.Native.Nat.{ℕ, ◌-◌, ◌/◌, ◌<◌, ◌≤◌}
 use mathlib.Core.Path.{◌≡◌, refl, sym, ap, subst, ◌∙◌}
 use mathlib.Core.List.{List, [], ◌++◌}
@@ -15,8 +16,6 @@ use Rattle.base.proofs.Cases.{on-order}
 use Rattle.octets.specs.Octets.{over}
 use Rattle.octets.proofs.Fill.{over-fits}
 use Rattle.standing.specs.Standing.{written_value}
-use Rattle.standing.specs.declared.types.Written.{Written}
-use Rattle.standing.specs.declared.types.Written.TheVariants as reply
 use Rattle.session.specs.Lines.{lines_of}
 use Rattle.session.specs.Sessions.{begun, ran_of}
 use Rattle.session.specs.Whole.{file_text, file_reply}
@@ -31,18 +30,18 @@ no_true e = subst T (sym e) tt
 -- ---- the room
 
 -- whether bytes were written
-abbrev is_bytes : Written → Bool
-is_bytes (reply.Count n) = true
-is_bytes (reply.Refused why) = false
+abbrev is_bytes : Result ℕ Refusal → Bool
+is_bytes (Ok n) = true
+is_bytes (Err why) = false
 
 -- with room the reply is the length of the lines, else a refusal
-reply-room : (l o : List ℕ) → length l / 3 < length o / 84 → file_reply l o ≡ reply.Count (length (lines_of l))
+reply-room : (l o : List ℕ) → length l / 3 < length o / 84 → file_reply l o ≡ Ok (length (lines_of l))
 reply-room l o h =
-    λ j. cond (lt-ltb (length l / 3) (length o / 84) h j) (reply.Count (length (lines_of l))) (reply.Refused refusal.Lent)
+    λ j. cond (lt-ltb (length l / 3) (length o / 84) h j) (Ok (length (lines_of l))) (Err refusal.Lent)
 
-reply-none : (l o : List ℕ) → length o / 84 ≤ length l / 3 → file_reply l o ≡ reply.Refused refusal.Lent
+reply-none : (l o : List ℕ) → length o / 84 ≤ length l / 3 → file_reply l o ≡ Err refusal.Lent
 reply-none l o h =
-    λ j. cond (le-ltb (length l / 3) (length o / 84) h j) (reply.Count (length (lines_of l))) (reply.Refused refusal.Lent)
+    λ j. cond (le-ltb (length l / 3) (length o / 84) h j) (Ok (length (lines_of l))) (Err refusal.Lent)
 
 -- where there is room the lines fit
 lines-in : (l o : List ℕ) → length l / 3 < length o / 84 → length (lines_of l) ≤ length o
@@ -54,19 +53,19 @@ lines-in l o h =
 
 -- ---- whether the file agrees
 
-module _ (file lines o : List ℕ) (z : length o ≡ 65536) {w : Written} (e : w ≡ file_reply file o) where
+module _ (file lines o : List ℕ) (z : length o ≡ 65536) {w : Result ℕ Refusal} (e : w ≡ file_reply file o) where
   -- a reply that is a count is the length of the lines
-  counted : {k : ℕ} → w ≡ reply.Count k → (length file / 3 < length o / 84) × (k ≡ length (lines_of file))
+  counted : {k : ℕ} → w ≡ Ok k → (length file / 3 < length o / 84) × (k ≡ length (lines_of file))
   counted b =
       on-order (length file / 3) (length o / 84)
       (λ h. (h, ap written_value (sym b ∙ e ∙ reply-room file o h)))
       (λ h. absurd (no_true (sym (ap is_bytes (sym b ∙ e ∙ reply-none file o h)))))
 
-  pub count-in : {k : ℕ} → w ≡ reply.Count k → k ≤ length o
+  pub count-in : {k : ℕ} → w ≡ Ok k → k ≤ length o
   count-in b = omega (arith, lines-in file o (counted b).0, (counted b).1)
 
   -- what stands at the front of the lent bytes tells whether the file agrees
-  pub file-told : {k : ℕ} {m : List ℕ} {same : Bool} → w ≡ reply.Count k → m ≡ over (file_text file o) o
+  pub file-told : {k : ℕ} {m : List ℕ} {same : Bool} → w ≡ Ok k → m ≡ over (file_text file o) o
       → (same ≡ true → take (k - 0) m ≡ lines) × (take (k - 0) m ≡ lines → same ≡ true)
       → same ≡ file_agrees file lines
   unfolding file_agrees
@@ -83,7 +82,7 @@ module _ (file lines o : List ℕ) (z : length o ≡ 65536) {w : Written} (e : w
       ∙ sym (λ j. cond (lt-ltb (length file / 3) (65536 / 84) fits j) (alike (lines_of file) lines) false)
 
   -- a file that is too large does not agree
-  pub file-large : {why : Refusal} → w ≡ reply.Refused why → false ≡ file_agrees file lines
+  pub file-large : {why : Refusal} → w ≡ Err why → false ≡ file_agrees file lines
   unfolding file_agrees
   file-large b =
       on-order (length file / 3) (length o / 84)
@@ -91,3 +90,10 @@ module _ (file lines o : List ℕ) (z : length o ≡ 65536) {w : Written} (e : w
       (λ h.
       sym (λ j. cond (le-ltb (length file / 3) (65536 / 84) (subst (λ (n : ℕ). n / 84 ≤ length file / 3) z h) j)
       (alike (lines_of file) lines) false))
+
+  pub file-none : ((k : ℕ) → w ≡ Ok k → ⊥) → false ≡ file_agrees file lines
+  file-none h = go w refl
+    where
+      go : (v : Result ℕ Refusal) → w ≡ v → false ≡ file_agrees file lines
+      go (Ok k) q = absurd (h k q)
+      go (Err why) q = file-large q

@@ -1,5 +1,7 @@
 -- Laws of a list in words: one call, the loop over the calls, and the whole list.
 -- Assumes nothing.
+use Rattle.std.specs.Prelude.{Result}
+use Rattle.base.specs.declared.types.Refusal.{Refusal}
 use Prim.Native.Nat.{ℕ, suc, ◌+◌, ◌-◌, ◌*◌, ◌/◌, ◌^◌, ◌<◌, ◌≤◌}
 use mathlib.Core.Path.{◌≡◌, sym, subst, ◌∙◌}
 use mathlib.Core.Bool.{Bool, true, false, ◌&&◌, and_assoc, and-true}
@@ -25,7 +27,7 @@ pub call-told : (t : List ℕ) (a b : List (List (List ℕ))) (l : List ℕ) {e 
     → g ≡ given_of l → Tells t a b w e
     → (eqb w g ≡ answers_agree (record_in t a) (l ∷ [])) × Steps t a b (step (record_in t a) (call_event l)).reply (call_event l)
 call-told t a b l {e} w {g} p q h =
-    let x : Reply = (step (record_in t a) e).reply in
+    let x : Result Reply Refusal = (step (record_in t a) e).reply in
     let d : w ≡ number_of x * 2 ^ 32 + value_of x = omega (arith, h.0, h.1) in (
       (λ j. eqb (d j) (q j))
           ∙ (λ j. eqb (number_of (step (record_in t a) (p j)).reply * 2 ^ 32 + value_of (step (record_in t a) (p j)).reply)
@@ -88,7 +90,7 @@ module _ {t l : List ℕ} {a₀ a : List (List (List ℕ))} {n i : ℕ} {same : 
       let z : 40 * i + 40 - 40 * i ≡ 40 = omega arith in
       let q : List ℕ = take 40 (drop (40 * i) l) in
       let r : List (List ℕ) = rest_of n (i + 1) l in
-      let x : Reply = (step (record_in t a) (call_event q)).reply in
+      let x : Result Reply Refusal = (step (record_in t a) (call_event q)).reply in
       let d : (one ≡ answers_agree (record_in t a) (q ∷ []))
       × Steps t a b (step (record_in t a) (call_event q)).reply (call_event q) =
       subst

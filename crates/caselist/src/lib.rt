@@ -6,7 +6,6 @@ ghost use Rattle.std.specs.Prelude.{◌≡◌};
 ghost use Rattle.caselist.specs.Cases.{is_whole, file_agrees, parts_agree, case_agrees, case_end};
 
 use lists::list_agrees;
-use standing::types::Written;
 
 pub mod lists;
 
@@ -32,11 +31,10 @@ fn file_agrees(file: &[u8], lines: &[u8]) -> bool
     ensures { result ≡ file_agrees file.now lines.now }
 {
     let mut out = [0u8; 65536];
-    let w = portions::whole::lines_of_file(file, &mut out);
-    match w {
-        Written::Count(k) => check::same(&out[0..k], lines),
-        Written::Refused(why) => false,
-    }
+    let Ok(k) = portions::whole::lines_of_file(file, &mut out) else {
+        return false;
+    };
+    check::same(&out[0..k], lines)
 }
 
 // Whether two parts agree: a list of events in words and its standings, or a file and its lines.

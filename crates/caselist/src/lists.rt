@@ -47,12 +47,10 @@ fn calls_agree(t: &[u64; 4], rec: &mut [[[u64; 4]; ROWS]; PATH_MAX_PER_PEER], s:
 {
     let n = s.len() / 40;
     let mut same = true;
-    let mut i: usize = 0;
-    while i < n {
+    for i in 0..n {
         let p = 40 * i;
         let one = call_agrees(t, rec, &s[p..p + 40]);
-        same = same & one;
-        i += 1;
+        same &= one;
     }
     same
 }
@@ -61,9 +59,8 @@ fn calls_agree(t: &[u64; 4], rec: &mut [[[u64; 4]; ROWS]; PATH_MAX_PER_PEER], s:
 fn slot_agrees(rec: &[[[u64; 4]; ROWS]; PATH_MAX_PER_PEER], slot: u8, given: &[u8]) -> bool
     ensures { result ≡ alike (slot_told (get_or (map slot_in rec.now) slot empty_slot)) given.now }
 {
-    queries::slots(rec);
     let mut out = [0u8; 51];
-    queries::standings::standing(rec, slot, &mut out);
+    let _ = queries::standings::standing(rec, slot, &mut out);
     check::same(&out, given)
 }
 
@@ -71,17 +68,14 @@ fn slot_agrees(rec: &[[[u64; 4]; ROWS]; PATH_MAX_PER_PEER], slot: u8, given: &[u
 fn standings_agree(rec: &[[[u64; 4]; ROWS]; PATH_MAX_PER_PEER], given: &[u8]) -> bool
     ensures { result ≡ standings_agree (map slot_in rec.now) given.now }
 {
-    queries::slots(rec);
     if given.len() != 408 {
         return false;
     }
     let mut same = true;
-    let mut i: u8 = 0;
-    while i < 8 {
+    for i in 0..8u8 {
         let p = 51 * (i as usize);
         let one = slot_agrees(rec, i, &given[p..p + 51]);
-        same = same & one;
-        i += 1;
+        same &= one;
     }
     same
 }

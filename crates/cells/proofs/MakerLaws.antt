@@ -1,22 +1,17 @@
 -- A maker's contract from what its words are: the row is the code's, and it says the value.
 -- Assumes nothing.
+use Rattle.std.specs.Prelude.{Option, Some}
 use Prim.Native.Nat.{ℕ, ◌+◌, ◌*◌, ◌<◌, ◌≤◌, ◌^◌}
 use mathlib.Core.Path.{◌≡◌, ap, sym, ◌∙◌}
 use mathlib.Core.List.{[], ◌∷◌}
 use mathlib.Core.Bool.{cond}
 use native.Mathlib.Omega.{arith}
 use Rattle.base.specs.Seq.{flag_of}
-use Rattle.base.specs.declared.types.MaybeId.{MaybeId}
-use Rattle.base.specs.declared.types.MaybeId.TheVariants as id
-use Rattle.base.specs.declared.types.MaybeLen.{MaybeLen}
-use Rattle.base.specs.declared.types.MaybeLen.TheVariants as len
 use Rattle.ring.specs.declared.types.Sent.{Sent}
 use Rattle.ring.specs.declared.types.Ids.{Ids}
 use Rattle.rtt.specs.declared.types.Span.{Span}
-use Rattle.stop.specs.declared.types.MaybeStop.{MaybeStop}
-use Rattle.stop.specs.declared.types.MaybeStop.TheVariants as stop
 use Rattle.stop.specs.declared.types.Stop.{Stop}
-use Rattle.base.specs.Missing.{time_tag}
+use Rattle.base.specs.Missing.{tag}
 use Rattle.cells.specs.Cells.{id_in, length_in, sent_in, ids_in, span_in}
 use Rattle.cells.specs.Code.{id_word, len_word, sent_row, ids_row, span_row, stop_row}
 use Rattle.cells.proofs.RowLaws.{id-some, len-some, sent-says, ids-same, span-says}
@@ -27,20 +22,6 @@ under {x} {y} {n} p =
     let e : x ≡ y = p.0 in
     let h : x < n = p.1 in
     omega arith
-
--- the word of an identifier that is there
-pub id-made : {m : MaybeId} {x n : ℕ} → m ≡ id.Some n → (x ≡ n) × (x < 2 ^ 32) → (x + 1 ≡ id_word m) × (id_in (x + 1) ≡ m)
-id-made {m} {x} {n} e p =
-    let w : x + 1 ≡ id_word m = ap (λ (y : ℕ). y + 1) p.0 ∙ ap id_word (sym e) in
-    (w, ap id_in (ap (λ (y : ℕ). y + 1) p.0) ∙ id-some n (under p) ∙ sym e)
-
--- the word of a length that is there
-pub len-made : {m : MaybeLen} {x n : ℕ} → m ≡ len.Some n → (x ≡ n) × (x < 65536)
-    → (x + 1 ≡ len_word m) × (length_in (x + 1) ≡ m) × (x + 1 ≤ 65536)
-len-made {m} {x} {n} e p =
-    let w : x + 1 ≡ len_word m = ap (λ (y : ℕ). y + 1) p.0 ∙ ap len_word (sym e) in
-    let h : x < 65536 = p.1 in
-    (w, ap length_in (ap (λ (y : ℕ). y + 1) p.0) ∙ len-some n (under p) ∙ sym e, omega arith)
 
 -- a probe's row
 pub sent-made : (s : Sent) {x n e : ℕ} → (x ≡ s.probe_id) × (x < 2 ^ 32) → (n ≡ s.len) × (n < 65536)
@@ -73,7 +54,7 @@ span-made s {f} e =
     (r, ap span_in r ∙ span-says s)
 
 -- the row of a stop
-pub stop-made : {m : MaybeStop} {s : Stop} {k t : ℕ} → m ≡ stop.Some s → k ≡ 1 + flag_of s.owed → t ≡ 2 * time_tag s.until
+pub stop-made : {m : Option Stop} {s : Stop} {k t : ℕ} → m ≡ Some s → k ≡ 1 + flag_of s.owed → t ≡ 2 * tag s.until
     → (k + t) ∷ s.free ∷ s.gap ∷ s.used ∷ [] ≡ stop_row m
 unfolding stop_row
 stop-made {m} {s} {k} {t} e f g = (λ j. (f j + g j) ∷ s.free ∷ s.gap ∷ s.used ∷ []) ∙ ap stop_row (sym e)

@@ -1,5 +1,7 @@
 -- A row that was made to say something says it (`..-says`), for values within their widths.
 -- Assumes nothing.
+use Rattle.stop.specs.declared.types.Stop.{Stop}
+use Rattle.std.specs.Prelude.{Option, None, Some, unwrap_or}
 use Prim.Native.Nat.{ℕ, ◌+◌, ◌*◌, ◌-◌, ◌/◌, ◌<◌, ◌≤◌, ◌%◌, ◌^◌}
 use mathlib.Core.Path.{◌≡◌, refl, ap, ◌∙◌}
 use mathlib.Core.Bool.{Bool, true, false, cond}
@@ -10,19 +12,13 @@ use lib.Dec.{T, eqb, leb, ltb}
 use lib.Ieee.{Float, binary64, fits}
 use Rattle.base.specs.Seq.{flag_of}
 use Rattle.base.proofs.Cases.{flag_small, flag-bit}
-use Rattle.base.specs.declared.types.MaybeId.TheVariants as id
-use Rattle.base.specs.declared.types.MaybeLen.TheVariants as len
-use Rattle.base.specs.declared.types.MaybeTime.{MaybeTime}
-use Rattle.base.specs.declared.types.MaybeTime.TheVariants as time
 use Rattle.ring.specs.declared.types.Sent.{Sent}
 use Rattle.ring.specs.declared.types.Ids.{Ids}
 use Rattle.rtt.specs.declared.types.Span.{Span}
 use Rattle.seek.specs.declared.types.Ladder.{Ladder}
 use Rattle.seek.specs.declared.types.Sizes.{Sizes}
-use Rattle.stop.specs.declared.types.MaybeStop.{MaybeStop}
-use Rattle.stop.specs.declared.types.MaybeStop.TheVariants as stop
 use Rattle.live.specs.declared.types.Traffic.{Traffic}
-use Rattle.base.specs.Missing.{time_tag, time_or_zero}
+use Rattle.base.specs.Missing.{tag}
 use Rattle.total.specs.Patterns.{etx_bits}
 use Rattle.total.proofs.PlaceLaws.{float-again}
 use Rattle.select.specs.declared.types.Role.{Role}
@@ -60,21 +56,21 @@ mark-used true n h = le-leb 65536 (n + 65536) (omega arith)
 mark-used false n h = lt-leb 65536 (n + 0) (omega arith)
 
 -- an identifier's word says it
-pub id-some : (x : ℕ) → x < 2 ^ 32 → id_in (x + 1) ≡ id.Some x
+pub id-some : (x : ℕ) → x < 2 ^ 32 → id_in (x + 1) ≡ Some x
 id-some x h =
     let z : (x + 1 - 1) % 2 ^ 32 ≡ x = omega arith in
     rw (ne_eqb (x + 1) 0 (λ q. absurd (omega arith)), z)
 
 -- a length's word says it
-pub len-some : (x : ℕ) → x < 65536 → length_in (x + 1) ≡ len.Some x
+pub len-some : (x : ℕ) → x < 65536 → length_in (x + 1) ≡ Some x
 len-some x h =
     let z : (x + 1 - 1) % 65536 ≡ x = omega arith in
     rw (ne_eqb (x + 1) 0 (λ q. absurd (omega arith)), z)
 
 -- the two words of an instant or a duration say it
-pub instant-says : (m : MaybeTime) → instant_in (time_tag m) (time_or_zero m) ≡ m
-instant-says time.None = refl
-instant-says (time.Some t) = refl
+pub instant-says : (m : Option ℕ) → instant_in (tag m) (unwrap_or m 0) ≡ m
+instant-says None = refl
+instant-says (Some t) = refl
 
 -- a probe
 pub sent-says : (s : Sent) → s.probe_id < 2 ^ 32 → s.len < 65536 → sent_in (sent_row s) ≡ s
@@ -92,31 +88,31 @@ unfolding ids_in ids_row
 ids-same m a b c d = λ k. record { next_id = a k; answered = b k; epoch = c k; since = d k }
 
 -- the stop
-pub stop-says : (m : MaybeStop) → stop_in (stop_row m) (until_word m) ≡ m
+pub stop-says : (m : Option Stop) → stop_in (stop_row m) (until_word m) ≡ m
 unfolding stop_in stop_row until_word
-stop-says stop.None = refl
-stop-says (stop.Some s) = told s.owed s.until
+stop-says None = refl
+stop-says (Some s) = told s.owed s.until
   where
-    told : (owed : Bool) (until : MaybeTime)
-        → cond (eqb (1 + flag_of owed + 2 * time_tag until) 0) stop.None
-        (stop.Some
+    told : (owed : Bool) (until : Option ℕ)
+        → cond {A = Option Stop} (eqb (1 + flag_of owed + 2 * tag until) 0) None
+        (Some
         (record {
           free = s.free;
           gap = s.gap;
           used = s.used;
-          until = cond (ltb 2 (1 + flag_of owed + 2 * time_tag until)) (time.Some (time_or_zero until)) time.None;
-          owed = eqb ((1 + flag_of owed + 2 * time_tag until) % 2) 0;
+          until = cond (ltb 2 (1 + flag_of owed + 2 * tag until)) (Some (unwrap_or until 0)) None;
+          owed = eqb ((1 + flag_of owed + 2 * tag until) % 2) 0;
         }))
-        ≡ stop.Some (record { free = s.free; gap = s.gap; used = s.used; until = until; owed = owed })
-    told true time.None = refl
-    told true (time.Some t) = refl
-    told false time.None = refl
-    told false (time.Some t) = refl
+        ≡ Some (record { free = s.free; gap = s.gap; used = s.used; until = until; owed = owed })
+    told true None = refl
+    told true (Some t) = refl
+    told false None = refl
+    told false (Some t) = refl
 
 -- the sizes, by their words
 pub sizes-same : (s : Sizes) (w l m : ℕ) → w % 2 ^ 32 ≡ s.seek.probe_id → w / 2 ^ 32 % 65536 ≡ s.seek.len
     → (l ≡ s.seek.lost) × (l < 65536) → length_in m ≡ s.proven
-    → sizes_in (time_tag s.seek.at) (time_or_zero s.seek.at) w l m ≡ s
+    → sizes_in (tag s.seek.at) (unwrap_or s.seek.at 0) w l m ≡ s
 unfolding sizes_in
 sizes-same s w l m a b c d =
     let t = instant-says s.seek.at in

@@ -1,23 +1,16 @@
 -- What a row of four words says, or a word of it. Each definition is total, so that any words say something: a number is
 -- taken modulo its width; a mark is a word that is not 0, one from a limit on, or a bit.
-use Rattle.std.specs.Prelude.{ℕ, ◌+◌, ◌*◌, ◌-◌, ◌/◌, ◌%◌, ◌^◌, List, [], ◌∷◌, Bool, true, false, not, cond, leb, ltb, eqb, Float, get_or}
+use Rattle.stop.specs.declared.types.Stop.{Stop}
+use Rattle.std.specs.Prelude.{ℕ, ◌+◌, ◌*◌, ◌-◌, ◌/◌, ◌%◌, ◌^◌, List, [], ◌∷◌, Bool, true, false, not, cond, leb, ltb, eqb, Float, get_or, Option, None, Some}
 use Rattle.std.specs.Float.{binary64}
 use Rattle.std.specs.Float.Ieee.{of_bits}
 use Rattle.base.specs.Seq.{flag_of}
-use Rattle.base.specs.declared.types.MaybeId.{MaybeId}
-use Rattle.base.specs.declared.types.MaybeId.TheVariants as id
-use Rattle.base.specs.declared.types.MaybeLen.{MaybeLen}
-use Rattle.base.specs.declared.types.MaybeLen.TheVariants as len
-use Rattle.base.specs.declared.types.MaybeTime.{MaybeTime}
-use Rattle.base.specs.declared.types.MaybeTime.TheVariants as time
 use Rattle.ring.specs.declared.types.Sent.{Sent}
 use Rattle.ring.specs.declared.types.Ids.{Ids}
 use Rattle.rtt.specs.declared.types.Sample.{Sample}
 use Rattle.rtt.specs.declared.types.Span.{Span}
 use Rattle.seek.specs.declared.types.Sizes.{Sizes}
 use Rattle.seek.specs.declared.types.Ladder.{Ladder}
-use Rattle.stop.specs.declared.types.MaybeStop.{MaybeStop}
-use Rattle.stop.specs.declared.types.MaybeStop.TheVariants as stop
 use Rattle.live.specs.declared.types.Traffic.{Traffic}
 use Rattle.rules.specs.Event.{label_of}
 use Rattle.rules.specs.declared.types.Event.{Event}
@@ -55,16 +48,16 @@ abbrev pub flag_in : ℕ → Bool
 flag_in x = not (eqb x 0)
 
 -- an identifier with 1 added, or 0 for none
-abbrev pub id_in : ℕ → MaybeId
-id_in x = cond (eqb x 0) id.None (id.Some ((x - 1) % 2 ^ 32))
+abbrev pub id_in : ℕ → Option ℕ
+id_in x = cond (eqb x 0) None (Some ((x - 1) % 2 ^ 32))
 
 -- a length with 1 added, or 0 for none
-abbrev pub length_in : ℕ → MaybeLen
-length_in x = cond (eqb x 0) len.None (len.Some ((x - 1) % 65536))
+abbrev pub length_in : ℕ → Option ℕ
+length_in x = cond (eqb x 0) None (Some ((x - 1) % 65536))
 
 -- a mark, and an instant or a duration
-abbrev pub instant_in : ℕ → ℕ → MaybeTime
-instant_in tag t = cond (eqb tag 0) time.None (time.Some t)
+abbrev pub instant_in : ℕ → ℕ → Option ℕ
+instant_in tag t = cond (eqb tag 0) None (Some t)
 
 -- a probe: at, due, identifier, and its length with 65,536 added while the place is used
 unfoldable pub sent_in : List ℕ → Sent
@@ -88,7 +81,7 @@ ids_in r =
     }
 
 -- the identifiers with the one at a place of that order anew
-abbrev pub with_id : Ids → ℕ → MaybeId → Ids
+abbrev pub with_id : Ids → ℕ → Option ℕ → Ids
 with_id m k x =
     record {
       next_id = cond (eqb k 0) x m.next_id;
@@ -99,16 +92,16 @@ with_id m k x =
 
 -- the stop: a mark, 0 with none, else 1, with 1 more if a slot is owed and 2 more if it has until; free, gap, used; and u
 -- is until
-unfoldable pub stop_in : List ℕ → ℕ → MaybeStop
+unfoldable pub stop_in : List ℕ → ℕ → Option Stop
 stop_in r u =
     cond (eqb (word r 0) 0)
-    stop.None
-    (stop.Some
+    None
+    (Some
     (record {
       free = word r 1;
       gap = word r 2;
       used = word r 3;
-      until = cond (ltb 2 (word r 0)) (time.Some u) time.None;
+      until = cond (ltb 2 (word r 0)) (Some u) None;
       owed = eqb (word r 0 % 2) 0;
     }))
 

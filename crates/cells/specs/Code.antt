@@ -1,11 +1,7 @@
 -- The encoder's rows and words: the row, or the word of a row, that says a given thing. What is not read is 0.
-use Rattle.std.specs.Prelude.{ℕ, ◌+◌, ◌*◌, ◌^◌, List, [], ◌∷◌, Bool, cond, Float}
+use Rattle.stop.specs.declared.types.Stop.{Stop}
+use Rattle.std.specs.Prelude.{ℕ, ◌+◌, ◌*◌, ◌^◌, List, [], ◌∷◌, Bool, cond, Float, Option, None, Some, unwrap_or}
 use Rattle.base.specs.Seq.{flag_of}
-use Rattle.base.specs.declared.types.MaybeId.{MaybeId}
-use Rattle.base.specs.declared.types.MaybeId.TheVariants as id
-use Rattle.base.specs.declared.types.MaybeLen.{MaybeLen}
-use Rattle.base.specs.declared.types.MaybeLen.TheVariants as len
-use Rattle.base.specs.declared.types.MaybeTime.{MaybeTime}
 use Rattle.ring.specs.declared.types.Sent.{Sent}
 use Rattle.ring.specs.declared.types.Ids.{Ids}
 use Rattle.rtt.specs.declared.types.Sample.{Sample}
@@ -13,10 +9,8 @@ use Rattle.rtt.specs.declared.types.Span.{Span}
 use Rattle.seek.specs.declared.types.Seek.{Seek}
 use Rattle.seek.specs.declared.types.Sizes.{Sizes}
 use Rattle.seek.specs.declared.types.Ladder.{Ladder}
-use Rattle.stop.specs.declared.types.MaybeStop.{MaybeStop}
-use Rattle.stop.specs.declared.types.MaybeStop.TheVariants as stop
 use Rattle.live.specs.declared.types.Traffic.{Traffic}
-use Rattle.base.specs.Missing.{time_tag, time_or_zero}
+use Rattle.base.specs.Missing.{tag}
 use Rattle.total.specs.Patterns.{etx_bits}
 use Rattle.select.specs.Media.{medium_bits}
 use Rattle.select.specs.declared.types.Role.{Role}
@@ -27,14 +21,14 @@ use Rattle.rules.specs.declared.types.Label.{Label}
 use Rattle.rules.specs.declared.types.Settings.{Settings}
 
 -- an identifier with 1 added, or 0 for none
-abbrev pub id_word : MaybeId → ℕ
-id_word id.None = 0
-id_word (id.Some x) = x + 1
+abbrev pub id_word : Option ℕ → ℕ
+id_word None = 0
+id_word (Some x) = x + 1
 
 -- a length with 1 added, or 0 for none
-abbrev pub len_word : MaybeLen → ℕ
-len_word len.None = 0
-len_word (len.Some n) = n + 1
+abbrev pub len_word : Option ℕ → ℕ
+len_word None = 0
+len_word (Some n) = n + 1
 
 -- a probe
 unfoldable pub sent_row : Sent → List ℕ
@@ -45,22 +39,22 @@ unfoldable pub ids_row : Ids → List ℕ
 ids_row m = id_word m.next_id ∷ id_word m.answered ∷ id_word m.epoch ∷ id_word m.since ∷ []
 
 -- the silence clock, and the search's instant
-unfoldable pub clocks_row : MaybeTime → MaybeTime → List ℕ
-clocks_row q at = time_tag q ∷ time_or_zero q ∷ time_tag at ∷ time_or_zero at ∷ []
+unfoldable pub clocks_row : Option ℕ → Option ℕ → List ℕ
+clocks_row q at = tag q ∷ unwrap_or q 0 ∷ tag at ∷ unwrap_or at 0 ∷ []
 
 -- the stop, all 0 with none
-unfoldable pub stop_row : MaybeStop → List ℕ
-stop_row stop.None = 0 ∷ 0 ∷ 0 ∷ 0 ∷ []
-stop_row (stop.Some s) = (1 + flag_of s.owed + 2 * time_tag s.until) ∷ s.free ∷ s.gap ∷ s.used ∷ []
+unfoldable pub stop_row : Option Stop → List ℕ
+stop_row None = 0 ∷ 0 ∷ 0 ∷ 0 ∷ []
+stop_row (Some s) = (1 + flag_of s.owed + 2 * tag s.until) ∷ s.free ∷ s.gap ∷ s.used ∷ []
 
 -- its until, 0 with none
-unfoldable pub until_word : MaybeStop → ℕ
-until_word stop.None = 0
-until_word (stop.Some s) = time_or_zero s.until
+unfoldable pub until_word : Option Stop → ℕ
+until_word None = 0
+until_word (Some s) = unwrap_or s.until 0
 
 -- until, the ETX, and the latest round trip
-unfoldable pub trips_row : MaybeStop → Float → MaybeTime → List ℕ
-trips_row m x t = until_word m ∷ etx_bits x ∷ time_tag t ∷ time_or_zero t ∷ []
+unfoldable pub trips_row : Option Stop → Float → Option ℕ → List ℕ
+trips_row m x t = until_word m ∷ etx_bits x ∷ tag t ∷ unwrap_or t 0 ∷ []
 
 -- the search's identifier and length
 unfoldable pub search_word : Seek → ℕ
@@ -77,7 +71,7 @@ search_row s l = search_word s.seek ∷ s.seek.lost ∷ len_word s.proven ∷ la
 -- when the last frame and the last session datagram came
 unfoldable pub arrivals_row : Traffic → List ℕ
 arrivals_row t =
-    time_tag t.heard_at ∷ time_or_zero t.heard_at ∷ time_tag t.data_at ∷ time_or_zero t.data_at ∷ []
+    tag t.heard_at ∷ unwrap_or t.heard_at 0 ∷ tag t.data_at ∷ unwrap_or t.data_at 0 ∷ []
 
 -- frames and bytes
 unfoldable pub count_word : Traffic → ℕ

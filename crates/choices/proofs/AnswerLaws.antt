@@ -1,6 +1,8 @@
 -- The answers of the choice over a field in words, each by what its steps have found; and what the loops that try 6 and 12
 -- have seen.
 -- Assumes nothing.
+use Rattle.std.specs.Prelude.{Option, None, Some, Result, Ok, Err}
+use Rattle.std.specs.Bool.{then_some}
 use Prim.Native.Nat.{ℕ, zero, suc, ◌+◌, ◌<◌, ◌≤◌}
 use mathlib.Core.Path.{◌≡◌, refl, ap, sym, ◌∙◌}
 use mathlib.Core.Bool.{Bool, true, false, not, cond, ◌&&◌, ◌||◌}
@@ -12,13 +14,15 @@ use lib.Dec.{ltb, eqb}
 use lib.Ieee.{Float, nan, inf, fin, binary64, of_bits, le, mul, div}
 use lib.ListN.{length, get_or, take, drop, length-map, drop_of_length-le}
 use lib.Seq.{take-suc, take_all, drop-cons}
-use Rattle.base.specs.Seq.{every, keep}
+use Rattle.std.specs.List.{list_all, filter}
 use Rattle.base.specs.Limits.{is_endless}
 use Rattle.base.specs.Refusals.{refusal_number}
 use Rattle.base.specs.declared.types.Refusal.{Refusal}
 use Rattle.base.specs.declared.types.Refusal.TheVariants.{Duration, Index, NoPath}
 use Rattle.base.proofs.Cases.{on-flag, on-order, never}
 use Rattle.base.proofs.KeepLaws.{keep-keep, none-keep}
+use Rattle.total.specs.Patterns.{float_of}
+use Rattle.total.proofs.PlaceLaws.{quiet-nan}
 use Rattle.select.specs.Rivals.{no_rival, is_long, at_place, placed, by_score, by_trip}
 use Rattle.select.specs.Choice.{
   none_is,
@@ -38,12 +42,6 @@ use Rattle.select.specs.Choice.{
   best_of,
 }
 use Rattle.select.specs.declared.types.Rival.{Rival}
-use Rattle.select.specs.declared.types.MaybeRival.{MaybeRival}
-use Rattle.select.specs.declared.types.MaybeRival.TheVariants.{None, Some}
-use Rattle.select.specs.declared.types.Chosen.{Chosen}
-use Rattle.select.specs.declared.types.Chosen.TheVariants as chosen
-use Rattle.select.specs.declared.types.BestAnswer.{BestAnswer}
-use Rattle.select.specs.declared.types.BestAnswer.TheVariants as best
 use Rattle.select.proofs.ChoiceLaws.{passes, picked-passes, picked-taken, at-index}
 use Rattle.rivalrows.specs.Rows.{rival_in, field_in}
 use Rattle.leads.specs.Keys.{off_key, is_beyond, rank_key, is_top, score_key, trip_key, are_words, least_lead}
@@ -74,10 +72,10 @@ module _ (ws : List (List ℕ)) (n : 0 < length ws) where
     abbrev top : ℕ
     top = (least_lead ranks).key
 
-    ranked-as : ranked_of (field_in ws) ≡ keep (is_top top) (field_in ws)
+    ranked-as : ranked_of (field_in ws) ≡ filter (is_top top) (field_in ws)
     ranked-as = ranked-top (field_in ws) (tiers-small ws) top-found.place top-found.key off
 
-    scored-as : scored_of (ranked_of (field_in ws)) ≡ keep (is_on top) (field_in ws)
+    scored-as : scored_of (ranked_of (field_in ws)) ≡ filter (is_on top) (field_in ws)
     scored-as = ap scored_of ranked-as ∙ keep-keep (λ (r : Rival). r.scored) (is_top top) (field_in ws)
 
     abbrev scores : List ℕ
@@ -95,11 +93,11 @@ module _ (ws : List (List ℕ)) (n : 0 < length ws) where
       -- the picked one has its place for index
       slot_at : (margin : Float) (r : ℕ) → r < length (field_in ws)
           → picked_of (field_in ws) margin ≡ Some (get_or (field_in ws) r no_rival)
-          → chosen.Slot r ≡ slot_of (picked_of (field_in ws) margin)
+          → Ok r ≡ slot_of (picked_of (field_in ws) margin)
       slot_at margin r i p =
           sym
           (ap slot_of p
-          ∙ ap chosen.Slot
+          ∙ ap Ok
           (index_at (field_in ws) r pl i (picked-taken (field_in ws) margin (get_or (field_in ws) r no_rival) p).held))
 
       -- a place past the last has no rival that is held
@@ -112,7 +110,7 @@ module _ (ws : List (List ℕ)) (n : 0 < length ws) where
           beyond (x ∷ l) (suc r) h = beyond l r (omega arith)
 
       slot-of : (margin : Float) (r : ℕ) → picked_of (field_in ws) margin ≡ Some (get_or (field_in ws) r no_rival)
-          → chosen.Slot r ≡ slot_of (picked_of (field_in ws) margin)
+          → Ok r ≡ slot_of (picked_of (field_in ws) margin)
       slot-of margin r p =
           on-order r (length (field_in ws))
           (λ i. slot_at margin r i p)
@@ -120,7 +118,7 @@ module _ (ws : List (List ℕ)) (n : 0 < length ws) where
           never (picked-taken (field_in ws) margin (get_or (field_in ws) r no_rival) p).held (past r i))
 
       unscored : (margin : Float) → eqb (least_lead scores).key off_key ≡ true → are_words (map (trip_key top) (field_in ws)) ≡ true
-          → chosen.Slot (soonest_of (field_in ws) top) ≡ slot_of (picked_of (field_in ws) margin)
+          → Ok (soonest_of (field_in ws) top) ≡ slot_of (picked_of (field_in ws) margin)
       unfolding picked_of
       unscored margin e words =
           slot-of margin (soonest_of (field_in ws) top)
@@ -130,7 +128,7 @@ module _ (ws : List (List ℕ)) (n : 0 < length ws) where
           ∙ soonest-right (field_in ws) pl top off (least_lead ranks).at top-inside top-there words)
 
       scored : (margin : Float) → eqb (least_lead scores).key off_key ≡ false
-          → chosen.Slot (after_best (field_in ws) scores (least_lead scores) margin) ≡ slot_of (picked_of (field_in ws) margin)
+          → Ok (after_best (field_in ws) scores (least_lead scores) margin) ≡ slot_of (picked_of (field_in ws) margin)
       unfolding picked_of
       scored margin e =
           slot-of margin (after_best (field_in ws) scores (least_lead scores) margin)
@@ -143,11 +141,11 @@ module _ (ws : List (List ℕ)) (n : 0 < length ws) where
 -- ---- the answers
 
 module _ (l : List Rival) (margin : Float) where
-  pub seat-stray : not (placed 0 l) ≡ true → chosen.Refused Index ≡ seated_of l margin
+  pub seat-stray : not (placed 0 l) ≡ true → Err Index ≡ seated_of l margin
   unfolding seated_of
   seat-stray e = rw e
 
-  seat-slot : {k : Chosen} → not (placed 0 l) ≡ false → k ≡ slot_of (picked_of l margin) → k ≡ seated_of l margin
+  seat-slot : {k : Result ℕ Refusal} → not (placed 0 l) ≡ false → k ≡ slot_of (picked_of l margin) → k ≡ seated_of l margin
   unfolding seated_of
   seat-slot e f = rw e f
 
@@ -160,7 +158,7 @@ module _ (ws : List (List ℕ)) (n : length ws ≡ 8) (margin : Float) (e : not 
   here : 0 < length ws
   here = omega (arith, n)
 
-  pub seat-none : t.key ≡ off_key → chosen.Refused NoPath ≡ seated_of (field_in ws) margin
+  pub seat-none : t.key ≡ off_key → Err NoPath ≡ seated_of (field_in ws) margin
   unfolding picked_of
   seat-none k =
       seat-slot (field_in ws) margin e
@@ -177,22 +175,22 @@ module _ (ws : List (List ℕ)) (n : length ws ≡ 8) (margin : Float) (e : not 
 
     pub seat-soonest : {s : ℕ} → b.key ≡ off_key
         → (s ≡ soonest_of (field_in ws) t.key) × (are_words (map (trip_key t.key) (field_in ws)) ≡ true)
-        → chosen.Slot s ≡ seated_of (field_in ws) margin
+        → Ok s ≡ seated_of (field_in ws) margin
     seat-soonest z s =
         seat-slot (field_in ws) margin e
-        (ap chosen.Slot (s.0 ∙ ap (λ (f : Lead). soonest_of (field_in ws) f.key) h)
+        (ap Ok (s.0 ∙ ap (λ (f : Lead). soonest_of (field_in ws) f.key) h)
         ∙ unscored ws here on (not-false (placed 0 (field_in ws)) e) margin
         (eq-eqb (least_lead (map (score_key (least_lead (map rank_key (field_in ws))).key) (field_in ws))).key off_key
         (ap (λ (f : Lead). f.key) (sym best-as) ∙ z))
         (ap (λ (f : Lead). are_words (map (trip_key f.key) (field_in ws))) (sym h) ∙ s.1))
 
     pub seat-after : {s : ℕ} {ks : List ℕ} → (b.key ≡ off_key → ⊥) → ks ≡ map (score_key t.key) (field_in ws)
-        → s ≡ after_best (field_in ws) ks b margin → chosen.Slot s ≡ seated_of (field_in ws) margin
+        → s ≡ after_best (field_in ws) ks b margin → Ok s ≡ seated_of (field_in ws) margin
     seat-after {s} {ks} z q f =
         let r : ks ≡ map (score_key (least_lead (map rank_key (field_in ws))).key) (field_in ws) =
         q ∙ ap (λ (u : Lead). map (score_key u.key) (field_in ws)) h in
         seat-slot (field_in ws) margin e
-        (ap chosen.Slot (f ∙ (λ i. after_best (field_in ws) (r i) (best-as i) margin))
+        (ap Ok (f ∙ (λ i. after_best (field_in ws) (r i) (best-as i) margin))
         ∙ scored ws here on (not-false (placed 0 (field_in ws)) e) margin
         (ne_eqb (least_lead (map (score_key (least_lead (map rank_key (field_in ws))).key) (field_in ws))).key off_key
         (λ y. z (ap (λ (u : Lead). u.key) best-as ∙ y))))
@@ -217,7 +215,7 @@ past-none r = refl
 
 none-same : (p q : Rival → Bool) → ((r : Rival) → p r ≡ q r) → (l : List Rival) → none_is p l ≡ none_is q l
 none-same p q f [] = refl
-none-same p q f (r ∷ l) = λ i. cond (not (f r i)) (none-same p q f l i) false
+none-same p q f (r ∷ l) = λ i. not (f r i) && none-same p q f l i
 
 none-false : (l : List Rival) → none_is (λ r. false) l ≡ true
 none-false [] = refl
@@ -225,28 +223,28 @@ none-false (r ∷ l) = none-false l
 
 module _ (l : List Rival) (margin : Float) where
   pub answer-past : (longest : ℕ) → not (none_is (is_beyond longest) (rivals_of l)) ≡ true
-      → chosen.Refused Duration ≡ answer_up_to longest l margin
+      → Err Duration ≡ answer_up_to longest l margin
   unfolding answer_up_to
   answer-past longest e = rw e
 
-  pub answer-seated : (longest : ℕ) {k : Chosen} → not (none_is (is_beyond longest) (rivals_of l)) ≡ false
+  pub answer-seated : (longest : ℕ) {k : Result ℕ Refusal} → not (none_is (is_beyond longest) (rivals_of l)) ≡ false
       → k ≡ seated_of l margin → k ≡ answer_up_to longest l margin
   unfolding answer_up_to
   answer-seated longest e f = rw e f
 
-  pub answer-choose : {k : Chosen} → k ≡ answer_up_to 4611686018427387903 l margin → k ≡ choose_of l margin
+  pub answer-choose : {k : Result ℕ Refusal} → k ≡ answer_up_to 4611686018427387903 l margin → k ≡ choose_of l margin
   unfolding answer_up_to choose_of seated_of
   answer-choose f =
       f
-      ∙ ap (λ (b : Bool). cond (not b) (chosen.Refused Duration)
-      (cond (not (placed 0 l)) (chosen.Refused Index) (slot_of (picked_of l margin))))
+      ∙ ap (λ (b : Bool). cond (not b) (Err Duration)
+      (cond (not (placed 0 l)) (Err Index) (slot_of (picked_of l margin))))
       (none-same (is_beyond 4611686018427387903) is_long past-long (rivals_of l))
 
-  pub answer-picked : {k : Chosen} → k ≡ answer_up_to off_key l margin → k ≡ seated_of l margin
+  pub answer-picked : {k : Result ℕ Refusal} → k ≡ answer_up_to off_key l margin → k ≡ seated_of l margin
   unfolding answer_up_to
   answer-picked f =
       f
-      ∙ ap (λ (b : Bool). cond (not b) (chosen.Refused Duration) (seated_of l margin))
+      ∙ ap (λ (b : Bool). cond (not b) (Err Duration) (seated_of l margin))
       (none-same (is_beyond off_key) (λ (r : Rival). false) past-none (rivals_of l) ∙ none-false (rivals_of l))
 
 -- ---- the best score
@@ -261,7 +259,7 @@ near-nan l = keep-false (scored_of l)
     le-nan (inf s) = refl
     le-nan (fin s m e) = refl
 
-    keep-false : (m : List Rival) → keep (λ r. le r.score nan) m ≡ []
+    keep-false : (m : List Rival) → filter (λ r. le r.score nan) m ≡ []
     keep-false [] = refl
     keep-false (r ∷ m) = rw (le-nan r.score) (keep-false m)
 
@@ -279,40 +277,40 @@ scored-nan : (l : List Rival) (r : Rival) → among_scored (near_of (limit_of r 
 scored-nan l r = ap (λ (m : List Rival). among_scored m r) (ap (λ (x : Float). near_of x l) (limit-nan r) ∙ near-nan l)
 
 -- the answer of `best` by that of the choice
-abbrev pub best_by : List Rival → Chosen → BestAnswer
-best_by l (chosen.Slot n) = score_at l n
-best_by l (chosen.Refused why) = best_refusal why
+abbrev pub best_by : List Rival → Result ℕ Refusal → Result (Option Float) Refusal
+best_by l (Ok n) = score_at l n
+best_by l (Err why) = best_refusal why
 
 -- nothing is kept where none passes
-none_kept : (p : Rival → Bool) (l : List Rival) → keep p l ≡ [] → every (λ r. not (p r)) l ≡ true
+none_kept : (p : Rival → Bool) (l : List Rival) → filter p l ≡ [] → list_all (λ r. not (p r)) l ≡ true
 none_kept p [] e = refl
 none_kept p (r ∷ l) e =
     on-flag (p r)
-    (λ h. never {t = true} refl (ap is_empty (ap (λ (b : Bool). cond b (r ∷ keep p l) (keep p l)) (sym h) ∙ e)))
-    (λ h. rw h (none_kept p l (ap (λ (b : Bool). cond b (r ∷ keep p l) (keep p l)) (sym h) ∙ e)))
+    (λ h. never {t = true} refl (ap is_empty (ap (λ (b : Bool). cond b (r ∷ filter p l) (filter p l)) (sym h) ∙ e)))
+    (λ h. rw h (none_kept p l (ap (λ (b : Bool). cond b (r ∷ filter p l) (filter p l)) (sym h) ∙ e)))
   where
     is_empty : List Rival → Bool
     is_empty [] = false
     is_empty (x ∷ m) = true
 
 slot-score : (l : List Rival) (j n : ℕ) → n ≡ j → (get_or l j no_rival).scored ≡ true
-    → score_at l n ≡ best.Score (get_or l j no_rival).score
+    → score_at l n ≡ Ok (Some (get_or l j no_rival).score)
 unfolding score_at
 slot-score l j n e s = rw (e, s)
 
-slot-unscored : (l : List Rival) (n : ℕ) → (get_or l n no_rival).scored ≡ false → score_at l n ≡ best.Unscored
+slot-unscored : (l : List Rival) (n : ℕ) → (get_or l n no_rival).scored ≡ false → score_at l n ≡ Ok None
 unfolding score_at
 slot-unscored l n s = rw s
 
-no-path : best_refusal NoPath ≡ best.Unscored
+no-path : best_refusal NoPath ≡ Ok None
 unfolding best_refusal
 no-path = refl
 
-too_long : best_refusal Duration ≡ best.Refused Duration
+too_long : best_refusal Duration ≡ Err Duration
 unfolding best_refusal
 too_long = refl
 
-astray : best_refusal Index ≡ best.Refused Index
+astray : best_refusal Index ≡ Err Index
 unfolding best_refusal
 astray = refl
 
@@ -347,8 +345,8 @@ module _ (ws : List (List ℕ)) (n : 0 < length ws) (pl : placed 0 (field_in ws)
         let i : r.index ≡ (least_lead keys).at =
         index_at (field_in ws) (least_lead keys).at pl (best-inside ws pl high off nan (some ws n))
         (top-held high r off (left-of (is_top high r) r.scored on)) in
-        ap (λ (m : MaybeRival). best_by (field_in ws) (slot_of (among_ranked (ranked_of (field_in ws)) nan m))) f
-        ∙ ap (λ (m : MaybeRival). best_by (field_in ws) (slot_of m)) (scored-nan (ranked_of (field_in ws)) r)
+        ap (λ (m : Option Rival). best_by (field_in ws) (slot_of (among_ranked (ranked_of (field_in ws)) nan m))) f
+        ∙ ap (λ (m : Option Rival). best_by (field_in ws) (slot_of m)) (scored-nan (ranked_of (field_in ws)) r)
         ∙ slot-score (field_in ws) (least_lead keys).at r.index i (right_of (is_top high r) r.scored on)
         ∙ sym (ap best_score f)
 
@@ -359,13 +357,13 @@ module _ (ws : List (List ℕ)) (n : 0 < length ws) (pl : placed 0 (field_in ws)
     best-not-there e =
         let g : scored_of (ranked_of (field_in ws)) ≡ [] =
         scored-as ws n off ∙ keep-none (is_on high) (field_in ws) (best-nothing ws pl high off nan (some ws n) e) in
-        let h : every (λ r. not r.scored) (ranked_of (field_in ws)) ≡ true =
+        let h : list_all (λ r. not r.scored) (ranked_of (field_in ws)) ≡ true =
         none_kept (λ (r : Rival). r.scored) (ranked_of (field_in ws)) g in
         found (picked_of (field_in ws) nan) refl h
         ∙ sym (ap (λ (m : List Rival). best_score (first_by by_score m)) g)
       where
-        found : (m : MaybeRival) → picked_of (field_in ws) nan ≡ m
-            → every (λ r. not r.scored) (ranked_of (field_in ws)) ≡ true → best_by (field_in ws) (slot_of m) ≡ best.Unscored
+        found : (m : Option Rival) → picked_of (field_in ws) nan ≡ m
+            → list_all (λ r. not r.scored) (ranked_of (field_in ws)) ≡ true → best_by (field_in ws) (slot_of m) ≡ Ok None
         found None q h = no-path
         found (Some r) q h =
             let t : not r.scored ≡ true =
@@ -386,7 +384,7 @@ module _ (ws : List (List ℕ)) (n : 0 < length ws) (pl : placed 0 (field_in ws)
       (best-there e))
 
 -- `best` is the score of the choice where none is near
-pub best-chosen : (ws : List (List ℕ)) → length ws ≡ 8 → {k : Chosen} → k ≡ choose_of (field_in ws) nan
+pub best-chosen : (ws : List (List ℕ)) → length ws ≡ 8 → {k : Result ℕ Refusal} → k ≡ choose_of (field_in ws) nan
     → best_by (field_in ws) k ≡ best_of (field_in ws)
 unfolding choose_of best_of
 best-chosen ws n {k} e =
@@ -398,13 +396,13 @@ best-chosen ws n {k} e =
     (λ p. rw (h, p) (best-slot ws (omega (arith, n)) p))
     (λ p. rw (h, p) astray))
 
--- a NaN by division
-pub nan_is : div binary64 (of_bits binary64 0) (of_bits binary64 0) ≡ nan
-unfolding div of_bits
-nan_is = refl
+-- as the code finds it
+pub best-from : (ws : List (List ℕ)) → length ws ≡ 8 → {k m : Result ℕ Refusal} → k ≡ choose_of (field_in ws) (float_of 0x7ff8_0000_0000_0000)
+    → k ≡ m → best_by (field_in ws) m ≡ best_of (field_in ws)
+best-from ws n e f = best-chosen ws n (sym f ∙ e ∙ ap (choose_of (field_in ws)) quiet-nan)
 
 -- past the last place there is none
-pub score-past : (ws : List (List ℕ)) (at : ℕ) → length ws ≡ 8 → 8 ≤ at → best.Unscored ≡ score_at (field_in ws) at
+pub score-past : (ws : List (List ℕ)) (at : ℕ) → length ws ≡ 8 → 8 ≤ at → Ok None ≡ score_at (field_in ws) at
 score-past ws at n h =
     sym (slot-unscored (field_in ws) at (beyond (field_in ws) at (omega (arith, n, field-long ws))))
   where
@@ -418,22 +416,25 @@ module _ (ws : List (List ℕ)) (at : ℕ) (n : length ws ≡ 8) (h : at < 8) {r
   at_row : r ≡ get_or (field_in ws) at no_rival
   at_row = e ∙ sym (at-is ws at (omega (arith, n)))
 
-  pub score-there : r.scored ≡ true → best.Score r.score ≡ score_at (field_in ws) at
+  score-there : r.scored ≡ true → Ok (Some r.score) ≡ score_at (field_in ws) at
   score-there s =
-      ap (λ (x : Rival). best.Score x.score) at_row
+      ap (λ (x : Rival). Ok (Some x.score)) at_row
       ∙ sym (slot-score (field_in ws) at at refl (ap (λ (x : Rival). x.scored) (sym at_row) ∙ s))
 
-  pub score-not : r.scored ≡ false → best.Unscored ≡ score_at (field_in ws) at
+  score-not : r.scored ≡ false → Ok None ≡ score_at (field_in ws) at
   score-not s = sym (slot-unscored (field_in ws) at (ap (λ (x : Rival). x.scored) (sym at_row) ∙ s))
+
+  pub score-of : Ok (then_some r.scored r.score) ≡ score_at (field_in ws) at
+  score-of = on-flag r.scored (λ s. rw s (score-there s)) (λ s. rw s (score-not s))
 
 -- ---- whether one passes the longest
 
 -- of the first i none does, unless one was found
 pub record Looking (longest : ℕ) (ws : List (List ℕ)) (found : Bool) (i : ℕ) : Type 0 where
   pub long : length ws ≡ 8
-  pub done : found ≡ not (every (λ w. not ((rival_in w).held && is_beyond longest (rival_in w))) (take i ws))
+  pub done : found ≡ not (list_all (λ w. not ((rival_in w).held && is_beyond longest (rival_in w))) (take i ws))
 
-every-snoc : {A : Type 0} (q : A → Bool) (a : List A) (x : A) → every q (a ++ (x ∷ [])) ≡ (every q a && q x)
+every-snoc : {A : Type 0} (q : A → Bool) (a : List A) (x : A) → list_all q (a ++ (x ∷ [])) ≡ (list_all q a && q x)
 every-snoc q [] x = on-flag (q x) (λ h. rw h) (λ h. rw h)
 every-snoc q (y ∷ a) x = on-flag (q y) (λ h. rw h (every-snoc q a x)) (λ h. rw h)
 
@@ -456,11 +457,11 @@ module _ {longest : ℕ} {ws : List (List ℕ)} where
         done =
             g
             ∙ (λ j. s.done j || (e j && f j))
-            ∙ either (every (λ (w : List ℕ). not ((rival_in w).held && is_beyond longest (rival_in w))) (take i ws))
+            ∙ either (list_all (λ (w : List ℕ). not ((rival_in w).held && is_beyond longest (rival_in w))) (take i ws))
             ((rival_in (get_or ws i [])).held && is_beyond longest (rival_in (get_or ws i [])))
             ∙ ap not
             (sym
-            (ap (every (λ (w : List ℕ). not ((rival_in w).held && is_beyond longest (rival_in w))))
+            (ap (list_all (λ (w : List ℕ). not ((rival_in w).held && is_beyond longest (rival_in w))))
             (take-suc ws i [] (omega (arith, s.long)))
             ∙ every-snoc (λ (w : List ℕ). not ((rival_in w).held && is_beyond longest (rival_in w))) (take i ws) (get_or ws i [])));
       })
@@ -468,13 +469,13 @@ module _ {longest : ℕ} {ws : List (List ℕ)} where
   pub looking-end : {found : Bool} {i : ℕ} → Looking longest ws found i → 8 ≤ i → found ≡ not (none_is (is_beyond longest) (rivals_of (field_in ws)))
   looking-end {found} {i} s h =
       s.done
-      ∙ ap (λ (m : List (List ℕ)). not (every (λ (w : List ℕ). not ((rival_in w).held && is_beyond longest (rival_in w))) m))
+      ∙ ap (λ (m : List (List ℕ)). not (list_all (λ (w : List ℕ). not ((rival_in w).held && is_beyond longest (rival_in w))) m))
       (take_all i ws (omega (arith, s.long)))
       ∙ ap not
       (sym (every_map ws) ∙ sym (none-keep (is_beyond longest) (λ (r : Rival). r.held) (field_in ws)))
     where
-      every_map : (vs : List (List ℕ)) → every (λ r. not (r.held && is_beyond longest r)) (field_in vs)
-          ≡ every (λ w. not ((rival_in w).held && is_beyond longest (rival_in w))) vs
+      every_map : (vs : List (List ℕ)) → list_all (λ r. not (r.held && is_beyond longest r)) (field_in vs)
+          ≡ list_all (λ w. not ((rival_in w).held && is_beyond longest (rival_in w))) vs
       every_map [] = refl
       every_map (w ∷ vs) =
           on-flag (not ((rival_in w).held && is_beyond longest (rival_in w))) (λ k. rw k (every_map vs)) (λ k. rw k)
@@ -520,15 +521,3 @@ module _ {ws : List (List ℕ)} where
       last : (x : Bool) → not (cond x false true) ≡ x
       last true = refl
       last false = refl
-
--- ---- a refusal of `best`
-
-pub refused_none : (why : Refusal) {m n : ℕ} → m ≡ refusal_number why → n ≡ refusal_number NoPath → m ≡ n
-    → best.Unscored ≡ best_refusal why
-unfolding best_refusal
-refused_none why e f g = rw (eq-eqb (refusal_number why) (refusal_number NoPath) (sym e ∙ g ∙ f))
-
-pub refused-other : (why : Refusal) {m n : ℕ} → m ≡ refusal_number why → n ≡ refusal_number NoPath → (m ≡ n → ⊥)
-    → best.Refused why ≡ best_refusal why
-unfolding best_refusal
-refused-other why e f g = rw (ne_eqb (refusal_number why) (refusal_number NoPath) (λ z. g (e ∙ z ∙ sym f)))

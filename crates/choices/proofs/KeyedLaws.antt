@@ -1,6 +1,7 @@
 -- The first of a list's rivals that pass a test, by its place: where it passes, none that passes comes before it, and it
 -- comes before each earlier one that passes; and so by the least of their keys. One law for every scan of the choice.
 -- Assumes nothing.
+use Rattle.std.specs.Prelude.{None, Some}
 use Prim.Native.Nat.{ℕ, zero, suc, ◌<◌, ◌≤◌}
 use mathlib.Core.Path.{◌≡◌, refl, ap, ◌∙◌}
 use mathlib.Core.Bool.{Bool, true, false, not, ◌&&◌, ◌||◌}
@@ -9,7 +10,7 @@ use native.Mathlib.Omega.{arith}
 use borrow.Author.Tests.{le-ltb, le-leb, lt-leb, ne_eqb}
 use lib.Dec.{ltb, leb, eqb}
 use lib.ListN.{length, get_or}
-use Rattle.base.specs.Seq.{keep}
+use Rattle.std.specs.List.{filter}
 use Rattle.base.specs.First.{head_of, unbeaten}
 use Rattle.base.proofs.Cases.{on-flag, on-order, never}
 use Rattle.base.proofs.KeepLaws.{keep-keep}
@@ -17,7 +18,6 @@ use Rattle.base.proofs.ScanLaws.{every-keep-at, every-keep-of}
 use Rattle.select.specs.Rivals.{no_rival}
 use Rattle.select.specs.Choice.{first_by}
 use Rattle.select.specs.declared.types.Rival.{Rival}
-use Rattle.select.specs.declared.types.MaybeRival.TheVariants.{None, Some}
 use Rattle.leads.specs.Keys.{off_key}
 use Rattle.leads.proofs.LoopLaws.{Least}
 
@@ -25,7 +25,7 @@ use Rattle.leads.proofs.LoopLaws.{Least}
 
 module _ {A B : Type 0} (d : A) (none : B) (some : A → B) where
   head_at : (q : A → Bool) (l : List A) (r : ℕ) → r < length l → q (get_or l r d) ≡ true
-      → ((j : ℕ) → j < r → q (get_or l j d) ≡ false) → head_of none some (keep q l) ≡ some (get_or l r d)
+      → ((j : ℕ) → j < r → q (get_or l j d) ≡ false) → head_of none some (filter q l) ≡ some (get_or l r d)
   head_at q [] r h e f = absurd (omega arith)
   head_at q (x ∷ l) zero h e f = rw e
   head_at q (x ∷ l) (suc r) h e f =
@@ -33,7 +33,7 @@ module _ {A B : Type 0} (d : A) (none : B) (some : A → B) where
       rw n (head_at q l r (omega arith) e (λ j m. f (suc j) (omega arith)))
 
   head-none : (q : A → Bool) (l : List A) → ((j : ℕ) → j < length l → q (get_or l j d) ≡ false)
-      → head_of none some (keep q l) ≡ none
+      → head_of none some (filter q l) ≡ none
   head-none q [] f = refl
   head-none q (x ∷ l) f =
       let n : q x ≡ false = f 0 (omega arith) in
@@ -43,31 +43,31 @@ module _ {A B : Type 0} (d : A) (none : B) (some : A → B) where
 
 module _ (before : Rival → Rival → Bool) (p : Rival → Bool) (l : List Rival) where
   abbrev asked : Rival → Bool
-  asked x = p x && unbeaten before (keep p l) x
+  asked x = p x && unbeaten before (filter p l) x
 
-  first-is : first_by before (keep p l) ≡ head_of None Some (keep asked l)
-  first-is = ap (head_of None Some) (keep-keep (unbeaten before (keep p l)) p l)
+  first-is : first_by before (filter p l) ≡ head_of None Some (filter asked l)
+  first-is = ap (head_of None Some) (keep-keep (unbeaten before (filter p l)) p l)
 
   pub first-at : (r : ℕ) → r < length l → p (get_or l r no_rival) ≡ true
       → ((j : ℕ) → j < length l → p (get_or l j no_rival) ≡ true → before (get_or l j no_rival) (get_or l r no_rival) ≡ false)
       → ((j : ℕ) → j < r → p (get_or l j no_rival) ≡ true → before (get_or l r no_rival) (get_or l j no_rival) ≡ true)
-      → first_by before (keep p l) ≡ Some (get_or l r no_rival)
+      → first_by before (filter p l) ≡ Some (get_or l r no_rival)
   first-at r h e f g =
       first-is
       ∙ head_at no_rival None Some asked l r h
-      (let u : unbeaten before (keep p l) (get_or l r no_rival) ≡ true =
+      (let u : unbeaten before (filter p l) (get_or l r no_rival) ≡ true =
       every-keep-of no_rival p (λ (y : Rival). not (before y (get_or l r no_rival))) l (λ j m k. ap not (f j m k)) in
       both e u)
       (λ j m.
       on-flag (p (get_or l j no_rival))
       (λ k.
-      on-flag (unbeaten before (keep p l) (get_or l j no_rival))
+      on-flag (unbeaten before (filter p l) (get_or l j no_rival))
       (λ u.
       let b : not (before (get_or l r no_rival) (get_or l j no_rival)) ≡ true =
       every-keep-at no_rival p (λ (y : Rival). not (before y (get_or l j no_rival))) l r u h e in
       never b (ap not (g j m k)))
       (λ u. right (p (get_or l j no_rival)) u))
-      (λ k. left (unbeaten before (keep p l) (get_or l j no_rival)) k))
+      (λ k. left (unbeaten before (filter p l) (get_or l j no_rival)) k))
     where
       both : {x y : Bool} → x ≡ true → y ≡ true → (x && y) ≡ true
       both {x} {y} a b = (λ i. a i && b i)
@@ -79,11 +79,11 @@ module _ (before : Rival → Rival → Bool) (p : Rival → Bool) (l : List Riva
       right true a = a
       right false a = refl
 
-  pub first-none : ((j : ℕ) → j < length l → p (get_or l j no_rival) ≡ false) → first_by before (keep p l) ≡ None
+  pub first-none : ((j : ℕ) → j < length l → p (get_or l j no_rival) ≡ false) → first_by before (filter p l) ≡ None
   first-none f =
       first-is
       ∙ head-none no_rival None Some asked l
-      (λ j m. ap (λ (b : Bool). b && unbeaten before (keep p l) (get_or l j no_rival)) (f j m))
+      (λ j m. ap (λ (b : Bool). b && unbeaten before (filter p l) (get_or l j no_rival)) (f j m))
 
 -- ---- by the least key
 
@@ -134,7 +134,7 @@ module _ {before : Rival → Rival → Bool} {p : Rival → Bool} {l : List Riva
       ∙ ap (λ (x : Bool). not x || (leb (get_or ks r 0) (get_or ks j 0) && ltb (get_or l r no_rival).index (get_or l j no_rival).index))
       (lt-leb (get_or ks j 0) (get_or ks r 0) b)
 
-  pub least_first : eqb (get_or ks r 0) off_key ≡ false → first_by before (keep p l) ≡ Some (get_or l r no_rival)
+  pub least_first : eqb (get_or ks r 0) off_key ≡ false → first_by before (filter p l) ≡ Some (get_or l r no_rival)
   least_first e = first-at before p l r h (passes e) (least-over (passes e)) (least-ahead (passes e))
 
   -- no key is below off_key
@@ -148,5 +148,5 @@ module _ {before : Rival → Rival → Bool} {p : Rival → Bool} {l : List Riva
       never e z)
       (λ k. k)
 
-  pub least-none : eqb (get_or ks r 0) off_key ≡ true → first_by before (keep p l) ≡ None
+  pub least-none : eqb (get_or ks r 0) off_key ≡ true → first_by before (filter p l) ≡ None
   least-none e = first-none before p l (least-nothing e)

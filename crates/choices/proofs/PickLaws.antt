@@ -1,5 +1,6 @@
 -- What the steps of the choice find: the first by score, by medium and by round trip, each by the least of its keys.
 -- Assumes nothing.
+use Rattle.std.specs.Prelude.{Option, None, Some}
 use Prim.Native.Nat.{ℕ, ◌+◌, ◌<◌, ◌≤◌}
 use mathlib.Core.Path.{◌≡◌, refl, ap, sym, ◌∙◌}
 use mathlib.Core.Bool.{Bool, true, false, not, ◌&&◌, ◌||◌}
@@ -10,7 +11,7 @@ use lib.Dec.{T, ltb, leb, eqb}
 use lib.Ieee.{Float, binary64, fits, le, mul}
 use lib.Ieee.Fits.{mul-fits}
 use lib.ListN.{length, get_or, length-map}
-use Rattle.base.specs.Seq.{every, keep}
+use Rattle.std.specs.List.{list_all, filter}
 use Rattle.base.proofs.Cases.{on-flag, on-order, never}
 use Rattle.base.proofs.KeepLaws.{keep-keep, keep_same}
 use Rattle.total.specs.Patterns.{float_of}
@@ -24,8 +25,6 @@ use Rattle.select.proofs.ChoiceLaws.{placed_at}
 use Rattle.select.specs.declared.types.Medium.{Medium}
 use Rattle.select.specs.declared.types.Medium.TheVariants as medium
 use Rattle.select.specs.declared.types.Rival.{Rival}
-use Rattle.select.specs.declared.types.MaybeRival.{MaybeRival}
-use Rattle.select.specs.declared.types.MaybeRival.TheVariants.{None, Some}
 use Rattle.rivalrows.specs.Rows.{rival_in, field_in}
 use Rattle.leads.specs.Keys.{off_key, key_if, rank_key, is_top, score_key, speed_key, left_keys, is_near_key, is_speed, least_lead}
 use Rattle.leads.specs.declared.least.Lead.{Lead}
@@ -67,7 +66,7 @@ row-tier : (w : List ℕ) → (rival_in w).tier < 256
 unfolding rival_in
 row-tier w = omega arith
 
-pub tiers-small : (ws : List (List ℕ)) → every (λ r. ltb r.tier 256) (field_in ws) ≡ true
+pub tiers-small : (ws : List (List ℕ)) → list_all (λ r. ltb r.tier 256) (field_in ws) ≡ true
 tiers-small [] = refl
 tiers-small (w ∷ ws) = rw (lt-ltb (rival_in w).tier 256 (row-tier w)) (tiers-small ws)
 
@@ -234,8 +233,8 @@ module _ (ws : List (List ℕ)) (pl : placed 0 (field_in ws) ≡ true) (x : Floa
   abbrev is_over : Rival → Bool
   is_over r = is_near x f p r && quicker_of r.medium pick.medium
 
-  over-is : first_by by_medium (quick_of pick.medium (keep (is_near x f p) (field_in ws)))
-      ≡ first_by by_medium (keep is_over (field_in ws))
+  over-is : first_by by_medium (quick_of pick.medium (filter (is_near x f p) (field_in ws)))
+      ≡ first_by by_medium (filter is_over (field_in ws))
   over-is =
       ap (first_by by_medium)
       (keep-keep (λ (r : Rival). quicker_of r.medium pick.medium) (is_near x f p) (field_in ws))
@@ -252,14 +251,14 @@ module _ (ws : List (List ℕ)) (pl : placed 0 (field_in ws) ≡ true) (x : Floa
 
   abbrev OverAt : ℕ → Type 0
   OverAt r =
-      or_else (first_by by_medium (quick_of pick.medium (keep (is_near x f p) (field_in ws)))) pick
+      or_else (first_by by_medium (quick_of pick.medium (filter (is_near x f p) (field_in ws)))) pick
       ≡ Some (get_or (field_in ws) r no_rival)
 
   -- none is
   over_none : ((j : ℕ) → j < length (field_in ws) → is_near x f p (get_or (field_in ws) j no_rival) ≡ true → pace < 3
       → speed_of (get_or (field_in ws) j no_rival).medium < pace → ⊥) → OverAt at
   over_none g =
-      ap (λ (m : MaybeRival). or_else m pick)
+      ap (λ (m : Option Rival). or_else m pick)
       (over-is
       ∙ first-none by_medium is_over (field_in ws)
       (λ j h.
@@ -291,7 +290,7 @@ module _ (ws : List (List ℕ)) (pl : placed 0 (field_in ws) ≡ true) (x : Floa
       sym (speed-is y) ∙ eqb-true (speed_key y) s (right_of (is_near x f p y) _ c) in
       let quick : quicker_of y.medium pick.medium ≡ true =
       both (lt-ltb pace 3 b) (lt-ltb (speed_of y.medium) pace (omega (arith, pace-at))) in
-      ap (λ (m : MaybeRival). or_else m pick)
+      ap (λ (m : Option Rival). or_else m pick)
       (over-is
       ∙ first-at by_medium is_over (field_in ws) r i (both near quick)
       (λ j m k.
@@ -447,9 +446,9 @@ abbrev is_of : ℕ → Bool → Rival → Bool
 is_of top only r = is_on top r && isLeft only r
 
 module _ (x : Float) (f : T (fits binary64 x)) (top : ℕ) (l : List Rival) where
-  near-as : near_of x (keep (is_top top) l) ≡ keep (is_near x f (is_of top false)) l
+  near-as : near_of x (filter (is_top top) l) ≡ filter (is_near x f (is_of top false)) l
   near-as =
-      ap (keep (λ (r : Rival). le r.score x)) (keep-keep (λ (r : Rival). r.scored) (is_top top) l)
+      ap (filter (λ (r : Rival). le r.score x)) (keep-keep (λ (r : Rival). r.scored) (is_top top) l)
       ∙ keep-keep (λ (r : Rival). le r.score x) (is_on top) l
       ∙ keep_same (λ (r : Rival). is_on top r && le r.score x) (is_near x f (is_of top false))
       (λ r. any (is_on top r) r.preferred (le r.score x)) l
@@ -459,10 +458,10 @@ module _ (x : Float) (f : T (fits binary64 x)) (top : ℕ) (l : List Rival) wher
       any true false c = refl
       any false b c = refl
 
-  preferred-as : preferred_of (near_of x (keep (is_top top) l)) ≡ keep (is_near x f (is_of top true)) l
+  preferred-as : preferred_of (near_of x (filter (is_top top) l)) ≡ filter (is_near x f (is_of top true)) l
   preferred-as =
       ap preferred_of
-      (ap (keep (λ (r : Rival). le r.score x)) (keep-keep (λ (r : Rival). r.scored) (is_top top) l)
+      (ap (filter (λ (r : Rival). le r.score x)) (keep-keep (λ (r : Rival). r.scored) (is_top top) l)
       ∙ keep-keep (λ (r : Rival). le r.score x) (is_on top) l)
       ∙ keep-keep (λ (r : Rival). r.preferred) (λ (r : Rival). is_on top r && le r.score x) l
       ∙ keep_same (λ (r : Rival). (is_on top r && le r.score x) && r.preferred) (is_near x f (is_of top true))
@@ -524,10 +523,10 @@ module _ (ws : List (List ℕ)) (pl : placed 0 (field_in ws) ≡ true) (top : �
 
   -- the best, or none
   pub best-first : eqb (least_lead scores).key off_key ≡ false
-      → first_by by_score (keep (is_on top) (field_in ws)) ≡ Some best_one
+      → first_by by_score (filter (is_on top) (field_in ws)) ≡ Some best_one
   best-first e = least_first on-keyed best-found.place best-inside (sym key-as ∙ e)
 
-  pub best_none : eqb (least_lead scores).key off_key ≡ true → first_by by_score (keep (is_on top) (field_in ws)) ≡ None
+  pub best_none : eqb (least_lead scores).key off_key ≡ true → first_by by_score (filter (is_on top) (field_in ws)) ≡ None
   best_none e = least-none on-keyed best-found.place best-inside (sym key-as ∙ e)
 
   pub best-on : eqb (least_lead scores).key off_key ≡ false → is_on top best_one ≡ true
@@ -592,7 +591,7 @@ module _ (ws : List (List ℕ)) (pl : placed 0 (field_in ws) ≡ true) (top : �
 
     -- the first preferred one near the best
     second-first : leb second.key (limit_key limit) ≡ true
-        → first_by by_score (keep (is_near limit limit-fits (is_of top true)) (field_in ws))
+        → first_by by_score (filter (is_near limit limit-fits (is_of top true)) (field_in ws))
         ≡ Some (get_or (field_in ws) second.at no_rival)
     second-first e =
         let y : Rival = get_or (field_in ws) second.at no_rival in
@@ -609,7 +608,7 @@ module _ (ws : List (List ℕ)) (pl : placed 0 (field_in ws) ≡ true) (top : �
         (left-of (is_of top true (get_or (field_in ws) j no_rival)) _ k))
 
     second_none : leb second.key (limit_key limit) ≡ false
-        → first_by by_score (keep (is_near limit limit-fits (is_of top true)) (field_in ws)) ≡ None
+        → first_by by_score (filter (is_near limit limit-fits (is_of top true)) (field_in ws)) ≡ None
     second_none e =
         first-none by_score (is_near limit limit-fits (is_of top true)) (field_in ws)
         (λ j m.
@@ -622,7 +621,7 @@ module _ (ws : List (List ℕ)) (pl : placed 0 (field_in ws) ≡ true) (top : �
         (omega (arith, second-found.key)))
 
     abbrev near : List Rival
-    near = near_of limit (keep (is_top top) (field_in ws))
+    near = near_of limit (filter (is_top top) (field_in ws))
 
     -- `after` finds the pick
     pub after-right : among_scored near best_one

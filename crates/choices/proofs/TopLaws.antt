@@ -8,7 +8,8 @@ use native.Mathlib.Omega.{arith}
 use borrow.Author.Tests.{lt-ltb, le-ltb, le-leb, eq-eqb, ne_eqb, leb-true, eqb-true, ltb-true}
 use lib.Dec.{ltb, leb, eqb}
 use lib.ListN.{length, get_or, length-map}
-use Rattle.base.specs.Seq.{flag_of, every, keep}
+use Rattle.std.specs.List.{list_all, filter}
+use Rattle.base.specs.Seq.{flag_of}
 use Rattle.base.specs.First.{unbeaten}
 use Rattle.base.proofs.Cases.{on-flag, on-order, flag_small, never}
 use Rattle.base.proofs.KeepLaws.{keep-keep, keep_same, keep-same-in, keep_all}
@@ -71,19 +72,19 @@ both a b = λ i. a i && b i
 
 -- ---- lists
 
-every-that : (a b : Rival → Bool) → ((y : Rival) → a y ≡ true → b y ≡ true) → (m : List Rival) → every a m ≡ true
-    → every b m ≡ true
+every-that : (a b : Rival → Bool) → ((y : Rival) → a y ≡ true → b y ≡ true) → (m : List Rival) → list_all a m ≡ true
+    → list_all b m ≡ true
 every-that a b f [] e = refl
 every-that a b f (x ∷ m) e =
     on-flag (a x)
     (λ h. let k : b x ≡ true = f x h in rw k (every-that a b f m (rw h at e)))
-    (λ h. never e (ap (λ (t : Bool). cond t (every a m) false) h))
+    (λ h. never e (ap (λ (t : Bool). t && list_all a m) h))
 
-every-keep-is : (q p : Rival → Bool) (m : List Rival) → every q (keep p m) ≡ every (λ y. not (p y) || q y) m
+every-keep-is : (q p : Rival → Bool) (m : List Rival) → list_all q (filter p m) ≡ list_all (λ y. not (p y) || q y) m
 every-keep-is q p [] = refl
 every-keep-is q p (x ∷ m) = on-flag (p x) (λ h. rw h (rw (every-keep-is q p m))) (λ h. rw h (every-keep-is q p m))
 
-pub keep-none : (q : Rival → Bool) (l : List Rival) → ((j : ℕ) → j < length l → q (get_or l j no_rival) ≡ false) → keep q l ≡ []
+pub keep-none : (q : Rival → Bool) (l : List Rival) → ((j : ℕ) → j < length l → q (get_or l j no_rival) ≡ false) → filter q l ≡ []
 keep-none q [] f = refl
 keep-none q (x ∷ l) f =
     let n : q x ≡ false = f 0 (omega arith) in
@@ -91,9 +92,9 @@ keep-none q (x ∷ l) f =
 
 -- x is in a list: it passes what each passes
 abbrev In : Rival → List Rival → Type 0
-In x m = (q : Rival → Bool) → every q m ≡ true → q x ≡ true
+In x m = (q : Rival → Bool) → list_all q m ≡ true → q x ≡ true
 
-in-keep : (x : Rival) (m : List Rival) (p : Rival → Bool) → In x m → p x ≡ true → In x (keep p m)
+in-keep : (x : Rival) (m : List Rival) (p : Rival → Bool) → In x m → p x ≡ true → In x (filter p m)
 in-keep x m p i h q e =
     let z : (not (p x) || q x) ≡ true = i (λ (y : Rival). not (p y) || q y) (sym (every-keep-is q p m) ∙ e) in
     ap (λ (t : Bool). not t || q x) (sym h) ∙ z
@@ -101,24 +102,24 @@ in-keep x m p i h q e =
 -- ---- the three steps, where one is in the list that no other exceeds
 
 only-as : (p : Rival → Bool) (x : Rival) (m : List Rival) → In x m → (p x ≡ false → none_is p m ≡ true)
-    → only_any p m ≡ keep (λ y. beq (p y) (p x)) m
+    → only_any p m ≡ filter (λ y. beq (p y) (p x)) m
 only-as p x m i f =
     on-flag (p x)
     (λ h.
     let n : none_is p m ≡ false =
     on-flag (none_is p m) (λ e. never (i (λ (y : Rival). not (p y)) e) (ap not h)) (λ e. e) in
-    ap (λ (t : Bool). cond t m (keep p m)) n
+    ap (λ (t : Bool). cond t m (filter p m)) n
     ∙ keep_same p (λ (y : Rival). beq (p y) true) (λ y. beq-yes (p y)) m
-    ∙ ap (λ (t : Bool). keep (λ (y : Rival). beq (p y) t) m) (sym h))
+    ∙ ap (λ (t : Bool). filter (λ (y : Rival). beq (p y) t) m) (sym h))
     (λ h.
     let n : none_is p m ≡ true = f h in
-    ap (λ (t : Bool). cond t m (keep p m)) n
+    ap (λ (t : Bool). cond t m (filter p m)) n
     ∙ sym (keep_all (λ (y : Rival). beq (p y) false) m
     (every-that (λ (y : Rival). not (p y)) (λ (y : Rival). beq (p y) false) (λ y e. sym (beq-no (p y)) ∙ e) m n))
-    ∙ ap (λ (t : Bool). keep (λ (y : Rival). beq (p y) t) m) (sym h))
+    ∙ ap (λ (t : Bool). filter (λ (y : Rival). beq (p y) t) m) (sym h))
 
-high-as : (x : Rival) (m : List Rival) → In x m → every (λ y. leb y.tier x.tier) m ≡ true
-    → high_of m ≡ keep (λ y. eqb y.tier x.tier) m
+high-as : (x : Rival) (m : List Rival) → In x m → list_all (λ y. leb y.tier x.tier) m ≡ true
+    → high_of m ≡ filter (λ y. eqb y.tier x.tier) m
 high-as x m i f =
     keep-same-in (λ (y : Rival). leb y.tier x.tier) (unbeaten by_tier m) (λ (y : Rival). eqb y.tier x.tier)
     (λ y h.
@@ -181,12 +182,12 @@ rank_same a b t u f g h k =
 -- ---- the ranked
 
 module _ (l : List Rival) (x : Rival) (top : ℕ) (i : In x (rivals_of l)) (e : height_of x ≡ top) (n : x.tier < 256)
-    (o : every (λ y. leb (height_of y) top) (rivals_of l) ≡ true) where
+    (o : list_all (λ y. leb (height_of y) top) (rivals_of l) ≡ true) where
   abbrev named : List Rival
-  named = keep (λ y. beq y.pinned x.pinned) (rivals_of l)
+  named = filter (λ y. beq y.pinned x.pinned) (rivals_of l)
 
   abbrev high : List Rival
-  high = keep (λ y. eqb y.tier x.tier) named
+  high = filter (λ y. eqb y.tier x.tier) named
 
   in-named : In x named
   in-named = in-keep x (rivals_of l) (λ (y : Rival). beq y.pinned x.pinned) i (beq-self x.pinned)
@@ -210,7 +211,7 @@ module _ (l : List Rival) (x : Rival) (top : ℕ) (i : In x (rivals_of l)) (e : 
       o
 
   -- the tiers of the named
-  tiers : every (λ y. leb y.tier x.tier) named ≡ true
+  tiers : list_all (λ y. leb y.tier x.tier) named ≡ true
   tiers =
       every-keep-is (λ (y : Rival). leb y.tier x.tier) (λ (y : Rival). beq y.pinned x.pinned) (rivals_of l)
       ∙ every-that (λ (y : Rival). leb (height_of y) top)
@@ -255,7 +256,7 @@ module _ (l : List Rival) (x : Rival) (top : ℕ) (i : In x (rivals_of l)) (e : 
       (rivals_of l)
       o
 
-  top-is : ranked_of l ≡ keep (λ y. beq y.fits x.fits) high
+  top-is : ranked_of l ≡ filter (λ y. beq y.fits x.fits) high
   unfolding ranked_of
   top-is =
       ap (λ (m : List Rival). only_any (λ (r : Rival). r.fits) (high_of m))
@@ -264,7 +265,7 @@ module _ (l : List Rival) (x : Rival) (top : ℕ) (i : In x (rivals_of l)) (e : 
       ∙ only-as (λ (r : Rival). r.fits) x high in-high fits-none
 
   -- in one test
-  kept-is : every (λ r. ltb r.tier 256) l ≡ true → keep (λ y. beq y.fits x.fits) high ≡ keep (is_high top) l
+  kept-is : list_all (λ r. ltb r.tier 256) l ≡ true → filter (λ y. beq y.fits x.fits) high ≡ filter (is_high top) l
   kept-is t =
       keep-keep (λ (y : Rival). beq y.fits x.fits) (λ (y : Rival). eqb y.tier x.tier) named
       ∙ keep-keep (λ (y : Rival). eqb y.tier x.tier && beq y.fits x.fits)
@@ -288,17 +289,17 @@ module _ (l : List Rival) (x : Rival) (top : ℕ) (i : In x (rivals_of l)) (e : 
       joined true b d = refl
       joined false b d = refl
 
-ranked-high : (l : List Rival) (top : ℕ) → every (λ r. ltb r.tier 256) l ≡ true → Highest l top
-    → ranked_of l ≡ keep (is_high top) l
+ranked-high : (l : List Rival) (top : ℕ) → list_all (λ r. ltb r.tier 256) l ≡ true → Highest l top
+    → ranked_of l ≡ filter (is_high top) l
 ranked-high l top t h = found h.there
   where
-    found : (k : ℕ) × Stands l top k → ranked_of l ≡ keep (is_high top) l
+    found : (k : ℕ) × Stands l top k → ranked_of l ≡ filter (is_high top) l
     found (k, s) =
         let x : Rival = get_or l k no_rival in
         let i : In x (rivals_of l) =
         λ q f. every-keep-at no_rival (λ (r : Rival). r.held) q l k f s.inside s.held in
         let n : x.tier < 256 = ltb-true x.tier 256 (every-at no_rival (λ (r : Rival). ltb r.tier 256) l k t s.inside) in
-        let o : every (λ y. leb (height_of y) top) (rivals_of l) ≡ true =
+        let o : list_all (λ y. leb (height_of y) top) (rivals_of l) ≡ true =
         every-keep-of no_rival (λ (r : Rival). r.held) (λ (y : Rival). leb (height_of y) top) l
         (λ j m g. le-leb (height_of (get_or l j no_rival)) top (h.over j m g)) in
         top-is l x top i s.height n o ∙ kept-is l x top i s.height n o t
@@ -336,7 +337,7 @@ top-high r top n t =
     ∙ ne_eqb off_key (1024 - top) (omega arith)
     ∙ ap (λ (b : Bool). b && eqb (height_of r) top) (sym e))
 
-module _ (l : List Rival) (t : every (λ r. ltb r.tier 256) l ≡ true) {k : ℕ} (s : Least (map rank_key l) k) where
+module _ (l : List Rival) (t : list_all (λ r. ltb r.tier 256) l ≡ true) {k : ℕ} (s : Least (map rank_key l) k) where
   tier-at : (j : ℕ) → j < length l → (get_or l j no_rival).tier < 256
   tier-at j h = ltb-true (get_or l j no_rival).tier 256 (every-at no_rival (λ (r : Rival). ltb r.tier 256) l j t h)
 
@@ -348,7 +349,7 @@ module _ (l : List Rival) (t : every (λ r. ltb r.tier 256) l ≡ true) {k : ℕ
 
   -- where the least key is one, the ranked are those that have it
   pub ranked-top : {top : ℕ} → top ≡ get_or (map rank_key l) k 0 → eqb top off_key ≡ false
-      → ranked_of l ≡ keep (is_top top) l
+      → ranked_of l ≡ filter (is_top top) l
   ranked-top {top} e off =
       let x : Rival = get_or l k no_rival in
       let q : top ≡ rank_key x = e ∙ map_at rank_key no_rival l k inside in

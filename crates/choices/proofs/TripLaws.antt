@@ -1,5 +1,6 @@
 -- The pick where none has a score: known round trips first, the least of them, then the place.
 -- Assumes nothing.
+use Rattle.std.specs.Prelude.{Some}
 use Prim.Native.Nat.{ℕ, ◌<◌, ◌≤◌}
 use mathlib.Core.Path.{◌≡◌, refl, ap, sym, ◌∙◌}
 use mathlib.Core.Bool.{Bool, true, false, not, cond, ◌&&◌, ◌||◌, beq}
@@ -8,13 +9,12 @@ use native.Mathlib.Omega.{arith}
 use borrow.Author.Tests.{lt-ltb, le-ltb, ne_eqb, eqb-true, leb-true}
 use lib.Dec.{ltb, leb, eqb}
 use lib.ListN.{length, get_or, length-map}
-use Rattle.base.specs.Seq.{keep}
+use Rattle.std.specs.List.{filter}
 use Rattle.base.proofs.Cases.{on-flag, on-order, never}
 use Rattle.base.proofs.ScanLaws.{every-at}
 use Rattle.select.specs.Rivals.{no_rival, placed, by_trip}
 use Rattle.select.specs.Choice.{first_by}
 use Rattle.select.specs.declared.types.Rival.{Rival}
-use Rattle.select.specs.declared.types.MaybeRival.TheVariants.{Some}
 use Rattle.leads.specs.Keys.{off_key, is_top, wait_key, trip_key, are_words, least_lead}
 use Rattle.leads.proofs.LoopLaws.{Found, least-found, map_at}
 use Rattle.choices.specs.Steps.{soonest_of}
@@ -127,7 +127,7 @@ module _ (l : List Rival) (pl : placed 0 l ≡ true) (top : ℕ) (off : eqb top 
     one_key : get_or trips at-trip 0 ≡ one.rtt
     one_key = trip-at at-trip trip-inside ∙ trip-known top one one_on.0 one_on.1
 
-    pub trip-first : first_by by_trip (keep (is_top top) l) ≡ Some one
+    pub trip-first : first_by by_trip (filter (is_top top) l) ≡ Some one
     trip-first =
         first-at by_trip (is_top top) l at-trip trip-inside one_on.0
         (λ j m e.
@@ -190,7 +190,7 @@ module _ (l : List Rival) (pl : placed 0 l ≡ true) (top : ℕ) (off : eqb top 
         let q : get_or trips j 0 ≡ (get_or l j no_rival).rtt = trip-at j h ∙ trip-known top (get_or l j no_rival) e t in
         omega (arith, a, trip-found.key)
 
-    pub wait-first : first_by by_trip (keep (is_top top) l) ≡ Some first
+    pub wait-first : first_by by_trip (filter (is_top top) l) ≡ Some first
     wait-first =
         first-at by_trip (is_top top) l at-wait wait-inside first-top
         (λ j m e.
@@ -240,7 +240,7 @@ module _ (l : List Rival) (pl : placed 0 l ≡ true) (top : ℕ) (off : eqb top 
 
   -- `soonest` finds the first by round trip
   pub soonest-right : are_words trips ≡ true
-      → first_by by_trip (keep (is_top top) l) ≡ Some (get_or l (soonest_of l top) no_rival)
+      → first_by by_trip (filter (is_top top) l) ≡ Some (get_or l (soonest_of l top) no_rival)
   unfolding soonest_of
   soonest-right words =
       on-flag (eqb (least_lead trips).key off_key)

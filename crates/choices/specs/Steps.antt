@@ -1,6 +1,6 @@
 -- For the code of the choice: its steps, each by the least of some keys (Keys.antt, crate leads). That they make the choice
 -- of Choice.antt (crate select) is proved in proofs/AnswerLaws.antt, by PickLaws.antt and TripLaws.antt.
-use Rattle.std.specs.Prelude.{ℕ, Bool, true, not, cond, ◌||◌, List, map, ltb, leb, eqb, Float, get_or}
+use Rattle.std.specs.Prelude.{ℕ, Bool, true, not, cond, ◌||◌, List, map, ltb, leb, eqb, Float, get_or, Option, None, Some, Result, Ok, Err}
 use Rattle.std.specs.Float.{binary64}
 use Rattle.std.specs.Float.Ieee.{mul}
 use Rattle.base.specs.Refusals.{refusal_number}
@@ -10,29 +10,25 @@ use Rattle.total.specs.Places.{key_float, limit_key}
 use Rattle.select.specs.Rivals.{no_rival, placed}
 use Rattle.select.specs.Choice.{none_is, rivals_of, picked_of, slot_of}
 use Rattle.select.specs.declared.types.Rival.{Rival}
-use Rattle.select.specs.declared.types.Chosen.{Chosen}
-use Rattle.select.specs.declared.types.Chosen.TheVariants as chosen
-use Rattle.select.specs.declared.types.BestAnswer.{BestAnswer}
-use Rattle.select.specs.declared.types.BestAnswer.TheVariants as best
 use Rattle.leads.specs.Keys.{off_key, is_beyond, wait_key, trip_key, speed_key, left_keys, is_near_key, is_speed, least_lead}
 use Rattle.leads.specs.declared.least.Lead.{Lead}
 
 -- the choice among rivals whose round trips are not tried: 12, 11, or the slot. A record's are such
-unfoldable pub seated_of : List Rival → Float → Chosen
-seated_of field margin = cond (not (placed 0 field)) (chosen.Refused Index) (slot_of (picked_of field margin))
+unfoldable pub seated_of : List Rival → Float → Result ℕ Refusal
+seated_of field margin = cond (not (placed 0 field)) (Err Index) (slot_of (picked_of field margin))
 
 -- the choice where round trips are let through up to a longest: 6, then as above
-unfoldable pub answer_up_to : ℕ → List Rival → Float → Chosen
+unfoldable pub answer_up_to : ℕ → List Rival → Float → Result ℕ Refusal
 answer_up_to longest field margin =
-    cond (not (none_is (is_beyond longest) (rivals_of field))) (chosen.Refused Duration) (seated_of field margin)
+    cond (not (none_is (is_beyond longest) (rivals_of field))) (Err Duration) (seated_of field margin)
 
 -- the score of the rival at a place, if there is one
-unfoldable pub score_at : List Rival → ℕ → BestAnswer
-score_at field at = cond (get_or field at no_rival).scored (best.Score (get_or field at no_rival).score) best.Unscored
+unfoldable pub score_at : List Rival → ℕ → Result (Option Float) Refusal
+score_at field at = cond (get_or field at no_rival).scored (Ok (Some (get_or field at no_rival).score)) (Ok None)
 
 -- of `best`: a refusal, and no score where there is no path
-unfoldable pub best_refusal : Refusal → BestAnswer
-best_refusal why = cond (eqb (refusal_number why) (refusal_number NoPath)) best.Unscored (best.Refused why)
+unfoldable pub best_refusal : Refusal → Result (Option Float) Refusal
+best_refusal why = cond (eqb (refusal_number why) (refusal_number NoPath)) (Ok None) (Err why)
 
 -- the first near one over a quicker medium than that at `at`: of the least speed among the near, the least score
 unfoldable pub over_medium : List ℕ → ℕ → List ℕ → ℕ → ℕ

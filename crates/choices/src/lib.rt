@@ -4,6 +4,7 @@
 ghost use Rattle.std.specs.Prelude.{◌≡◌};
 ghost use Rattle.select.specs.Choice.{choose_of, best_of};
 
+use base::types::Refusal;
 use rivalrows::rows_of;
 use select::types::*;
 
@@ -11,7 +12,7 @@ pub mod steps;
 pub mod words;
 
 // The place of the path to take.
-pub fn choose(field: [Rival; PATH_MAX_PER_PEER], margin: f64) -> Chosen
+pub fn choose(field: [Rival; PATH_MAX_PER_PEER], margin: f64) -> Result<usize, Refusal>
     ensures { result ≡ choose_of field margin }
 {
     let rows = rows_of(field);
@@ -19,7 +20,7 @@ pub fn choose(field: [Rival; PATH_MAX_PER_PEER], margin: f64) -> Chosen
 }
 
 // The least score among the ranked.
-pub fn best(field: [Rival; PATH_MAX_PER_PEER]) -> BestAnswer
+pub fn best(field: [Rival; PATH_MAX_PER_PEER]) -> Result<Option<f64>, Refusal>
     ensures { result ≡ best_of field }
 {
     let rows = rows_of(field);

@@ -9,16 +9,13 @@ use leads::least::*;
 use leads::row::OFF;
 use rivalrows::ROW;
 use select::types::PATH_MAX_PER_PEER;
-use total::{key_float, limit_key};
+use total::{key_float, limit_key, pick};
 
 // The key at a place, 0 past the last.
 fn entry(keys: [u64; PATH_MAX_PER_PEER], at: usize) -> u64
     ensures { result ≡ get_or keys at 0 }
 {
-    if at < PATH_MAX_PER_PEER {
-        return keys[at];
-    }
-    0
+    keys.get(at).copied().unwrap_or(0)
 }
 
 // The place of the first near one over a quicker medium than that at `at`, by medium, score, place; else `at`.
@@ -36,8 +33,7 @@ fn over(
     }
     let quick = least(near_speeds(keys, limit, speeds));
     if quick.key < pace {
-        let quickest = least(class_keys(keys, limit, speeds, quick.key));
-        return quickest.at;
+        return least(class_keys(keys, limit, speeds, quick.key)).at;
     }
     at
 }
@@ -55,7 +51,7 @@ pub fn after(
     let limit = limit_key(key_float(best.key) * margin);
     let second = least(preferred_keys(field, keys, true));
     let only = second.key <= limit;
-    let at = pick_place(only, second.at, best.at);
+    let at = pick(only, second.at, best.at);
     over(preferred_keys(field, keys, only), limit, speeds(field), at)
 }
 

@@ -25,12 +25,8 @@ use waiting::store::set_lates;
 fn set_ring(p: &mut [[u64; 4]; ROWS], l: [Sent; RING])
     ensures { Says p.old p.new (with_ring (path_in p.old) l) }
 {
-    rows(p);
-    let mut i: usize = 0;
-    while i < RING {
-        let s = l[i];
-        set_sent(p, i, s);
-        i += 1;
+    for i in 0..RING {
+        set_sent(p, i, l[i]);
     }
 }
 
@@ -38,14 +34,10 @@ fn set_ring(p: &mut [[u64; 4]; ROWS], l: [Sent; RING])
 fn set_probes(p: &mut [[u64; 4]; ROWS], path: Liveness)
     ensures { Says p.old p.new (probed_with (path_in p.old) path) }
 {
-    let ring = path.ring;
-    let late = path.late;
-    let ids = path.ids;
-    let ladder = path.ladder;
-    set_ring(p, ring);
-    set_lates(p, late);
-    set_ids(p, ids);
-    set_ladder(p, ladder);
+    set_ring(p, path.ring);
+    set_lates(p, path.late);
+    set_ids(p, path.ids);
+    set_ladder(p, path.ladder);
     set_misses(p, path.misses);
 }
 
@@ -53,12 +45,8 @@ fn set_probes(p: &mut [[u64; 4]; ROWS], path: Liveness)
 fn set_samples(p: &mut [[u64; 4]; ROWS], l: [Sample; SAMPLES])
     ensures { Says p.old p.new (with_samples (path_in p.old) l) }
 {
-    rows(p);
-    let mut i: usize = 0;
-    while i < SAMPLES {
-        let s = l[i];
-        set_sample(p, i, s);
-        i += 1;
+    for i in 0..SAMPLES {
+        set_sample(p, i, l[i]);
     }
 }
 
@@ -66,12 +54,8 @@ fn set_samples(p: &mut [[u64; 4]; ROWS], l: [Sample; SAMPLES])
 fn set_spans(p: &mut [[u64; 4]; ROWS], l: [Span; SPANS])
     ensures { Says p.old p.new (with_spans (path_in p.old) l) }
 {
-    rows(p);
-    let mut i: usize = 0;
-    while i < SPANS {
-        let s = l[i];
-        set_span(p, i, s);
-        i += 1;
+    for i in 0..SPANS {
+        set_span(p, i, l[i]);
     }
 }
 
@@ -79,49 +63,37 @@ fn set_spans(p: &mut [[u64; 4]; ROWS], l: [Span; SPANS])
 fn set_rtts(p: &mut [[u64; 4]; ROWS], r: Rtts)
     ensures { Says p.old p.new (with_rtts (path_in p.old) r) }
 {
-    let samples = r.samples;
-    let spans = r.spans;
-    let last = r.rtt;
-    set_samples(p, samples);
-    set_spans(p, spans);
-    set_trip(p, last);
+    set_samples(p, r.samples);
+    set_spans(p, r.spans);
+    set_trip(p, r.rtt);
 }
 
 // Stores what a path has measured, and its silence.
 fn set_measures(p: &mut [[u64; 4]; ROWS], path: Liveness)
     ensures { Says p.old p.new (measured_with (path_in p.old) path) }
 {
-    let rtts = path.rtts;
-    let silence = path.silence;
-    let sizes = path.sizes;
-    let traffic = path.traffic;
-    let quiet = silence.quiet;
-    let stop = silence.stop;
-    set_rtts(p, rtts);
-    set_sizes(p, sizes);
-    set_traffic(p, traffic);
+    set_rtts(p, path.rtts);
+    set_sizes(p, path.sizes);
+    set_traffic(p, path.traffic);
     set_etx(p, path.etx);
-    set_quiet(p, quiet);
-    set_stop(p, stop);
+    set_quiet(p, path.silence.quiet);
+    set_stop(p, path.silence.stop);
 }
 
 // Stores a slot: the very words, and they say it.
 pub fn save(p: &mut [[u64; 4]; ROWS], s: Slot)
     ensures { (p.new ≡ slot_rows s) × (slot_in p.new ≡ s) }
 {
-    let path = s.path;
-    let label = s.label;
-    rows::whole::set_new(p, s.used, label);
-    set_probes(p, path);
-    set_measures(p, path);
+    rows::whole::set_new(p, s.used, s.label);
+    set_probes(p, s.path);
+    set_measures(p, s.path);
 }
 
 // The encoder's rows of a slot say it.
 pub fn slot_said(s: Slot)
     ensures { slot_in (slot_rows s) ≡ s }
 {
-    let row = [0u64; 4];
-    let mut p = [row; ROWS];
+    let mut p = [[0; 4]; ROWS];
     save(&mut p, s);
 }
 
@@ -129,11 +101,7 @@ pub fn slot_said(s: Slot)
 pub fn record_said(rec: Record)
     ensures { record_in (settings_row rec.settings) (record_rows rec) ≡ rec }
 {
-    let slots = rec.slots;
-    let mut i: usize = 0;
-    while i < PATH_MAX_PER_PEER {
-        let s = slots[i];
-        slot_said(s);
-        i += 1;
+    for i in 0..PATH_MAX_PER_PEER {
+        slot_said(rec.slots[i]);
     }
 }

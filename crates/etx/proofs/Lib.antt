@@ -1,5 +1,4 @@
--- Laws of the definitions in specs/, and of casts.
-mod Casts
+-- Laws of the definitions in specs/.
 mod FoldLaws
 pub mod Literals
 pub mod WithinLaws

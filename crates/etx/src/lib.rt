@@ -28,7 +28,7 @@ fn averaged(ratio: f64, delivered: bool) -> f64
 {
     let sample = outcome(delivered);
     let next = ratio + EWMA_LONG_ALPHA * (sample - ratio);
-    if (next != next) | (next < 0.01) {
+    if next.is_nan() || next < 0.01 {
         return inverted(0.01);
     }
     inverted(next)
@@ -36,6 +36,7 @@ fn averaged(ratio: f64, delivered: bool) -> f64
 
 // Folds one probe's outcome into the ETX: the long average of the delivery ratio, inverted and clamped to 1 and 100.
 // The ends of the ratio are branches too.
+#[tactic(auto, unfolding(crate::specs::Etx::fold_of))]
 pub fn fold(etx: f64, delivered: bool) -> f64
     ensures { result ≡ fold_of etx delivered }
 {
@@ -50,6 +51,7 @@ pub fn fold(etx: f64, delivered: bool) -> f64
 }
 
 // The quality index of an ETX and a round trip in milliseconds: the lower the better.
+#[tactic(auto, unfolding(crate::specs::Etx::quality_of))]
 pub fn quality_index(etx: f64, rtt_ms: f64) -> f64
     ensures { result ≡ quality_of etx rtt_ms }
 {

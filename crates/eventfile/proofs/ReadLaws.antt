@@ -58,6 +58,16 @@ parse-part l at e =
     take_all (length l - at) (drop at l) (le_of_eq (length-drop at l)) in
     (λ i. from at (e i)) ∙ (λ i. from at (front_of (m i)))
 
+-- and what is no event there is the same
+pub parse-other : (l : List ℕ) (at : ℕ) {p : Parse} → p ≡ front_of (mid_of at (length l - at) l)
+    → ((e : Event) (size : ℕ) → p ≡ parse.Event e size → ⊥) → p ≡ parse_of l at
+parse-other l at {p} e n = go p n ∙ parse-part l at e
+  where
+    go : (p : Parse) → ((e : Event) (size : ℕ) → p ≡ parse.Event e size → ⊥) → p ≡ from at p
+    go parse.End n = refl
+    go (parse.Event e size) n = absurd (n e size refl)
+    go (parse.Refused why kind) n = refl
+
 pub part-inside : (l : List ℕ) (at : ℕ) {e : Event} {size : ℕ} → at ≤ length l
     → parse.Event e size ≡ front_of (mid_of at (length l - at) l) → at + size ≤ length l
 part-inside l at h e =

@@ -3,8 +3,10 @@ use Rattle.std.specs.Prelude.{ℕ, zero, suc, ◌+◌, ◌/◌, ◌%◌, ◌^◌
 use Rattle.base.specs.declared.types.Refusal.{Refusal}
 use Rattle.base.specs.declared.types.Refusal.TheVariants as refusal
 use Rattle.octets.specs.Octets.{read_at}
-use Rattle.rules.specs.Event.{Kind, kind_number, Open, Probe, Answer, Poll, Sample, Fold, Prove, Search, Judge, Data}
-use Rattle.rules.specs.Event.{Fresh, Thaw, Sweep, Close, Choose}
+use Rattle.rules.specs.Event.{kind_number}
+use Rattle.rules.specs.declared.types.Kind.{Kind}
+use Rattle.rules.specs.declared.types.Kind.TheVariants.{Open, Probe, Answer, Poll, Sample, Fold, Prove, Search, Judge, Data}
+use Rattle.rules.specs.declared.types.Kind.TheVariants.{Fresh, Thaw, Sweep, Close, Choose}
 use Rattle.rules.specs.declared.types.Event.{Event}
 use Rattle.rules.specs.declared.types.Settings.{Settings}
 use Rattle.eventfile.specs.declared.types.Layout.{Layout}

@@ -30,6 +30,7 @@ pub fn settings_from(s: &[u8]) -> Settings
 fn is_stray(m: u8, k: u8) -> bool
     ensures { result ≡ is_stray m k }
 {
+    // Not by `matches!`: tried, and `returns` did not close over the joins of its six values.
     let now = (k == 2) | ((k == 3) | ((k == 4) | ((k == 5) | ((k == 8) | ((k == 9) | (k == 10))))));
     let span = (k == 2) | ((k == 5) | ((k == 9) | (k == 15)));
     let id = (k == 2) | ((k == 3) | (k == 8));
@@ -49,14 +50,13 @@ fn is_stray(m: u8, k: u8) -> bool
 fn front(s: &[u8]) -> Parse
     ensures { result ≡ front_of s.now }
 {
-    if s.len() == 0 {
+    if s.is_empty() {
         return Parse::End;
     }
     let map = byte_at(s, 0);
     let kind = byte_at(s, 1);
     let at = laid_out(map);
-    let size = at.size;
-    if s.len() < size {
+    if s.len() < at.size {
         return Parse::Refused(Refusal::Cut, kind);
     }
     let kindless = (kind < 1) | (15 < kind);
@@ -67,7 +67,7 @@ fn front(s: &[u8]) -> Parse
     if stray {
         return Parse::Refused(Refusal::Map, kind);
     }
-    Parse::Event(event_of(s, map, kind), size)
+    Parse::Event(event_of(s, map, kind), at.size)
 }
 
 // The record at a place of a file.
@@ -77,11 +77,9 @@ pub fn record_at(s: &[u8], at: usize) -> Parse
     if s.len() <= at {
         return Parse::End;
     }
-    let found = front(&s[at..]);
-    match found {
-        Parse::End => Parse::End,
+    match front(&s[at..]) {
         Parse::Event(e, size) => Parse::Event(e, at + size),
-        Parse::Refused(why, kind) => Parse::Refused(why, kind),
+        other => other,
     }
 }
 

@@ -11,7 +11,7 @@ use rules::types::Event;
 pub fn byte_at(s: &[u8], at: usize) -> u8
     ensures { result ≡ get_or s.now at 0 }
 {
-    if at < s.len() { s[at] } else { 0 }
+    s.get(at).copied().unwrap_or(0)
 }
 
 // The bytes of a field.
@@ -32,12 +32,12 @@ pub fn laid_out(map: u8) -> Layout
     let flags = acked + bytes_of(map / 16 % 2 == 1, 2);
     let size = flags + bytes_of(map / 32 % 2 == 1, 1);
     Layout {
-        span: span,
-        id: id,
-        len: len,
-        acked: acked,
-        flags: flags,
-        size: size,
+        span,
+        id,
+        len,
+        acked,
+        flags,
+        size,
     }
 }
 
@@ -45,10 +45,7 @@ pub fn laid_out(map: u8) -> Layout
 fn field(s: &[u8], on: bool, at: usize, width: usize) -> u64
     ensures { (result ≡ cond on (read_at at width s.now) 0) × (result < 256 ^ width) }
 {
-    if on {
-        return get(s, at, width);
-    }
-    0
+    if on { get(s, at, width) } else { 0 }
 }
 
 // The event of the record that the bytes begin with.
@@ -62,7 +59,7 @@ pub fn event_of(s: &[u8], map: u8, kind: u8) -> Event
         id: field(s, map / 4 % 2 == 1, at.id, 4) as u32,
         len: field(s, map / 8 % 2 == 1, at.len, 2) as u32,
         acked: field(s, map / 16 % 2 == 1, at.acked, 2) as u32,
-        kind: kind,
+        kind,
         slot: byte_at(s, 2),
         flags: field(s, map / 32 % 2 == 1, at.flags, 1) as u8,
     }

@@ -4,6 +4,8 @@ use rules::types::Event;
 
 // What stands at a place of a file: nothing more; an event, and the place after its record; or a refusal, with the kind
 // byte, 0 if it was not read.
+// Three answers and no `Result<Option<..>, ..>`: each reader but `record_at` answers all three in a type of its own, so
+// `?` would serve one place, and `Ok(Some((event, next)))` and `Err((why, kind))` would say less than these names.
 #[derive(Clone, Copy)]
 pub enum Parse {
     End,

@@ -81,17 +81,27 @@ module _ {l t : List ℕ} {a₀ : List (List (List ℕ))} {l₀ out : List ℕ} 
     record { says = (λ i. run (record_in t a) (sym e i)) ∙ s.runs; coded = s.coded },
   )
 
-  pub answering-end : {p : Parse} → p ≡ parse_of l from → p ≡ parse.End
+  answering-end : {p : Parse} → p ≡ parse_of l from → p ≡ parse.End
       → (out ≡ over (answers_in l (record_in t a₀) (length l₀)) l₀) × Leaves t a₀ a (fitting l (length l₀))
   answering-end {p} h b =
       let e = events-end (length l) l from enough (sym h ∙ b) in
       ended ((λ i. take ((length l₀ - at) / 16) (e i)) ∙ take_none ((length l₀ - at) / 16))
 
-  pub answering-refused : {p : Parse} {why : Refusal} {kind : ℕ} → p ≡ parse_of l from → p ≡ parse.Refused why kind
+  answering-refused : {p : Parse} {why : Refusal} {kind : ℕ} → p ≡ parse_of l from → p ≡ parse.Refused why kind
       → (out ≡ over (answers_in l (record_in t a₀) (length l₀)) l₀) × Leaves t a₀ a (fitting l (length l₀))
   answering-refused {p} h b =
       let e = events-refused (length l) l from enough (sym h ∙ b) in
       ended ((λ i. take ((length l₀ - at) / 16) (e i)) ∙ take_none ((length l₀ - at) / 16))
+
+  pub answering-stop : {p : Parse} → p ≡ parse_of l from → ((e : Event) (next : ℕ) → p ≡ parse.Event e next → ⊥)
+      → (out ≡ over (answers_in l (record_in t a₀) (length l₀)) l₀) × Leaves t a₀ a (fitting l (length l₀))
+  answering-stop {p} h n = go p h n
+    where
+      go : (p : Parse) → p ≡ parse_of l from → ((e : Event) (next : ℕ) → p ≡ parse.Event e next → ⊥)
+          → (out ≡ over (answers_in l (record_in t a₀) (length l₀)) l₀) × Leaves t a₀ a (fitting l (length l₀))
+      go parse.End h n = answering-end h refl
+      go (parse.Refused why kind) h n = answering-refused h refl
+      go (parse.Event e next) h n = absurd (n e next refl)
 
   pub answering-full : length out - at < 16
       → (out ≡ over (answers_in l (record_in t a₀) (length l₀)) l₀) × Leaves t a₀ a (fitting l (length l₀))

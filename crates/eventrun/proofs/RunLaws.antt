@@ -1,5 +1,6 @@
 -- The whole run, by what the pass that writes nothing has told.
 -- Assumes nothing.
+use Rattle.std.specs.Prelude.{Result, Ok, Err}
 use Prim.Native.Nat.{ℕ, suc, ◌+◌, ◌-◌, ◌*◌, ◌/◌, ◌≤◌, ◌<◌}
 use mathlib.Core.Bool.{Bool, true, false, not, ◌&&◌, cond}
 use mathlib.Core.Path.{◌≡◌, refl, sym, ap, subst, ◌∙◌}
@@ -23,7 +24,6 @@ use Rattle.rules.specs.declared.types.Reply.TheVariants as reply
 use Rattle.rules.specs.declared.types.Event.{Event}
 use Rattle.rules.specs.declared.types.Record.{Record}
 use Rattle.standing.specs.Standing.{fit}
-use Rattle.standing.specs.declared.types.Written.TheVariants as written
 use Rattle.eventfile.specs.File.{settings_of, events_of, ending_of}
 use Rattle.cells.specs.Code.{settings_row}
 use Rattle.rows.specs.View.{slot_in}
@@ -31,8 +31,6 @@ use Rattle.peer.specs.Record.{record_in, record_rows, AreCoded}
 use Rattle.peer.proofs.FreshLaws.{made_row, made-coded, fresh_in}
 use Rattle.eventrun.specs.Runs.{entry_bytes, standings_of, output_of, end_verdict, ended_by, file_written, out_by, out_of}
 use Rattle.eventrun.specs.Runs.{Leaves, pass_of, not_run, plan_of, is_made, planned_row, planned_rows, Plans}
-use Rattle.eventrun.specs.declared.types.Verdict.{Verdict}
-use Rattle.eventrun.specs.declared.types.Verdict.TheVariants as verdict
 use Rattle.eventrun.specs.declared.types.Scan.{Scan}
 use Rattle.eventrun.proofs.AnswerLaws.{words-two, fitting, answers_in}
 
@@ -67,7 +65,7 @@ plan-cut file t a h =
     (sym (plan-by file c refl), unmade file t a (made_by file c refl))
 
 -- a call of `new` with the file's settings
-module _ (file t : List ℕ) (a : List (List (List ℕ))) {s : Settings} {x : Reply} {u : List ℕ} {b : List (List (List ℕ))}
+module _ (file t : List ℕ) (a : List (List (List ℕ))) {s : Settings} {x : Result Reply Refusal} {u : List ℕ} {b : List (List (List ℕ))}
     (e : s ≡ settings_of file) (n : (x ≡ (record_of s).reply) × (u ≡ cond (allowed s) (settings_row s) t)
     × (b ≡ cond (allowed s) (record_rows (fresh_record s)) a)) where
   row : u ≡ cond (allowed (settings_of file)) (settings_row (settings_of file)) t
@@ -90,10 +88,10 @@ module _ (file t : List ℕ) (a : List (List (List ℕ))) {s : Settings} {x : Re
     unfolding record_of
     number_by true q =
         v ∙ ap number_of n.0 ∙ (λ i. number_of (record_of (e i)).reply)
-        ∙ (λ i. number_of (cond (q i) reply.Nothing (reply.Refused refusal.Duration)))
+        ∙ (λ i. number_of (cond (q i) (Ok reply.Nothing) (Err refusal.Duration)))
     number_by false q =
         v ∙ ap number_of n.0 ∙ (λ i. number_of (record_of (e i)).reply)
-        ∙ (λ i. number_of (cond (q i) reply.Nothing (reply.Refused refusal.Duration)))
+        ∙ (λ i. number_of (cond (q i) (Ok reply.Nothing) (Err refusal.Duration)))
 
     long : ltb (length file) 32 ≡ false
     long = le-ltb (length file) 32 h
@@ -139,8 +137,8 @@ unfolding file_written plan_of pass_of
 ran-by file lent = go (ltb (length file) 32) (allowed (settings_of file))
   where
     go : (a b : Bool)
-        → cond a (written.Refused refusal.Cut)
-        (cond b (ended_by (end_verdict (ending_of file)) (fit (output_of file) lent)) (written.Refused refusal.Duration))
+        → cond a (Err refusal.Cut)
+        (cond b (ended_by (end_verdict (ending_of file)) (fit (output_of file) lent)) (Err refusal.Duration))
         ≡ ended_by
         (cond a (not_run refusal.Cut) (cond b (pass_of file) (not_run refusal.Duration))).end
         (fit (output_of file) lent)
@@ -149,21 +147,17 @@ ran-by file lent = go (ltb (length file) 32) (allowed (settings_of file))
     go false false = refl
 
 -- 13, 6, 14 or 15
-pub run-refused : (file l : List ℕ) {p : Scan} {why : Refusal} → p ≡ plan_of file → p.end ≡ verdict.Bad why
-    → (written.Refused why ≡ file_written file (length l)) × (l ≡ out_of file l)
+pub run-refused : (file l : List ℕ) {p : Scan} {why : Refusal} → p ≡ plan_of file → p.end ≡ Err why
+    → (Err why ≡ file_written file (length l)) × (l ≡ out_of file l)
 unfolding out_of
 run-refused file l {p} {why} e q =
-    let k : file_written file (length l) ≡ written.Refused why =
+    let k : file_written file (length l) ≡ Err why =
     ran-by file (length l)
     ∙ (λ i. ended_by ((ap (λ (s : Scan). s.end) (sym e) ∙ q) i) (fit (output_of file) (length l))) in
     (sym k, λ i. out_by (sym k i) (over (output_of file) l) l)
 
-whole-not : {C : Type 0} {why : Refusal} → verdict.Bad why ≡ verdict.Whole → C
-whole-not {C} {why} e = never {t = is_bad (verdict.Bad why)} refl (ap is_bad e)
-  where
-    is_bad : Verdict → Bool
-    is_bad verdict.Whole = false
-    is_bad (verdict.Bad why) = true
+whole-not : {C : Type 0} {why : Refusal} → ◌≡◌ {A = Result (Unit {0}) Refusal} (Err why) (Ok tt) → C
+whole-not {C} {why} e = cc
 
 -- a record is made of settings that are allowed
 made-allowed : (file : List ℕ) → is_made file ≡ true → allowed (settings_of file) ≡ true
@@ -174,12 +168,12 @@ made-allowed file = go (ltb (length file) 32) (allowed (settings_of file))
     go false b e = e
 
 -- only a scan ends whole
-pub plan-whole : (file : List ℕ) → (plan_of file).end ≡ verdict.Whole
+pub plan-whole : (file : List ℕ) → (plan_of file).end ≡ Ok tt
     → (plan_of file ≡ pass_of file) × (is_made file ≡ true)
 unfolding plan_of
 plan-whole file = go (ltb (length file) 32) (allowed (settings_of file))
   where
-    go : (a b : Bool) → (cond a (not_run refusal.Cut) (cond b (pass_of file) (not_run refusal.Duration))).end ≡ verdict.Whole
+    go : (a b : Bool) → (cond a (not_run refusal.Cut) (cond b (pass_of file) (not_run refusal.Duration))).end ≡ Ok tt
         → (cond a (not_run refusal.Cut) (cond b (pass_of file) (not_run refusal.Duration)) ≡ pass_of file)
         × ((not a && b) ≡ true)
     go true b e = whole-not e
@@ -197,7 +191,7 @@ answers-length l = flat-length entry_bytes 16 (λ x. words-two x.number x.value)
 
 -- what a whole plan knows; d are the words after it, and z those after a second pass over as many events as fit
 module _ (file l : List ℕ) {p : Scan} {told : ℕ} {t u : List ℕ} {a d : List (List (List ℕ))}
-    (e : (p ≡ plan_of file) × Plans file t u a d) (q : p.end ≡ verdict.Whole)
+    (e : (p ≡ plan_of file) × Plans file t u a d) (q : p.end ≡ Ok tt)
     (m : told ≡ length (standings_of (map slot_in d)))
   where
     whole : (plan_of file ≡ pass_of file) × (is_made file ≡ true)
@@ -231,13 +225,13 @@ module _ (file l : List ℕ) {p : Scan} {told : ℕ} {t u : List ℕ} {a d : Lis
 
     -- 16
     pub run_lent : {b : Bool} → b ≡ leb (16 * p.count + told) (length l) → b ≡ false
-        → (written.Refused refusal.Lent ≡ file_written file (length l)) × (l ≡ out_of file l)
+        → (Err refusal.Lent ≡ file_written file (length l)) × (l ≡ out_of file l)
     unfolding out_of
     run_lent {b} c f =
         let z : leb (length (output_of file)) (length l) ≡ false =
         (λ i. leb (sym output-length i) (length l)) ∙ sym c ∙ f in
-        let k : file_written file (length l) ≡ written.Refused refusal.Lent =
-        ran-whole ∙ (λ i. cond (z i) (written.Count (length (output_of file))) (written.Refused refusal.Lent)) in
+        let k : file_written file (length l) ≡ Err refusal.Lent =
+        ran-whole ∙ (λ i. cond (z i) (Ok (length (output_of file))) (Err refusal.Lent)) in
         (sym k, λ i. out_by (sym k i) (over (output_of file) l) l)
 
     -- all is written
@@ -249,7 +243,7 @@ module _ (file l : List ℕ) {p : Scan} {told : ℕ} {t u : List ℕ} {a d : Lis
       all_fit = take_all (length l / 16) (events_of file) (omega (arith, run_room, is-count))
 
       -- a second `new`, and the answers of the events
-      module _ {s : Settings} {x : Reply} {v : List ℕ} {g y : List (List (List ℕ))} {l₁ : List ℕ}
+      module _ {s : Settings} {x : Result Reply Refusal} {v : List ℕ} {g y : List (List (List ℕ))} {l₁ : List ℕ}
           (k : s ≡ settings_of file)
           (n : (x ≡ (record_of s).reply) × (v ≡ cond (allowed s) (settings_row s) u)
           × (g ≡ cond (allowed s) (record_rows (fresh_record s)) d))
@@ -276,19 +270,19 @@ module _ (file l : List ℕ) {p : Scan} {told : ℕ} {t u : List ℕ} {a d : Lis
 
           pub run-whole : {w : List ℕ}
               → w ≡ over (standings_of (map slot_in y)) (mid_of (16 * p.count) (length l₁ - 16 * p.count) l₁)
-              → (written.Count (16 * p.count + told) ≡ file_written file (length l))
+              → (Ok (16 * p.count + told) ≡ file_written file (length l))
               × (put_mid (16 * p.count) (length l₁ - 16 * p.count) l₁ w ≡ out_of file l)
           unfolding out_of output_of
           run-whole {w} h =
               let n = output-length in
               let z : leb (length (output_of file)) (length l) ≡ true =
               le-leb (length (output_of file)) (length l) (omega (arith, n, run_room)) in
-              let k : file_written file (length l) ≡ written.Count (length (output_of file)) =
-              ran-whole ∙ (λ i. cond (z i) (written.Count (length (output_of file))) (written.Refused refusal.Lent)) in
+              let k : file_written file (length l) ≡ Ok (length (output_of file)) =
+              ran-whole ∙ (λ i. cond (z i) (Ok (length (output_of file))) (Err refusal.Lent)) in
               let h' : w ≡ over (standings_of last.slots) (mid_of (16 * p.count) (length l₁ - 16 * p.count) l₁) =
               h ∙ (λ i. over (standings_of (run-last i)) (mid_of (16 * p.count) (length l₁ - 16 * p.count) l₁)) in
               let x = fill (standings_of last.slots) run-answers (omega (arith, told_is, run_room)) h' in (
-                ap (λ (c : ℕ). written.Count c) n ∙ sym k,
+                ap (λ (c : ℕ). Ok c) n ∙ sym k,
                 filled-over x ∙ (λ i. out_by (sym k i) (over (output_of file) l) l),
               )
 

@@ -1,5 +1,6 @@
 -- The pass that writes nothing: what is left to run from here gives what the whole gives.
 -- Assumes nothing.
+use Rattle.std.specs.Prelude.{Ok, Err}
 use Prim.Native.Nat.{ℕ, ◌+◌, ◌≤◌}
 use mathlib.Core.Path.{◌≡◌, refl, sym, ap, ◌∙◌, subst}
 use mathlib.Core.List.{List, []}
@@ -16,7 +17,6 @@ use Rattle.eventfile.proofs.FileLaws.{events-end, end-end, events-event, end-eve
 use Rattle.peer.specs.Record.{record_in, AreCoded, Tells}
 use Rattle.peer.proofs.StepLaws.{tells_as}
 use Rattle.eventrun.specs.Runs.{end_verdict, pass_of, Leaves}
-use Rattle.eventrun.specs.declared.types.Verdict.TheVariants as verdict
 use Rattle.eventrun.specs.declared.types.Scan.{Scan}
 
 -- a record of the file lies behind its place and ends within the bytes
@@ -59,7 +59,7 @@ module _ {l t : List ℕ} {a₀ a : List (List (List ℕ))} {n at : ℕ} (s : Sc
   left e = record { says = sym (λ i. run (record_in t a) (e i)) ∙ s.runs; coded = s.coded }
 
   pub scanning-end : {p : Parse} → p ≡ parse_of l at → p ≡ parse.End
-      → (record { count = n; end = verdict.Whole } ≡ pass_of l) × Leaves t a₀ a (events_of l)
+      → (record { count = n; end = (Ok tt) } ≡ pass_of l) × Leaves t a₀ a (events_of l)
   scanning-end {p} h b =
       let q : parse_of l at ≡ parse.End = sym h ∙ b in
       let e = events-end (length l) l at enough q in
@@ -67,12 +67,8 @@ module _ {l t : List ℕ} {a₀ a : List (List (List ℕ))} {n at : ℕ} (s : Sc
       let k : n + length (events_from (length l) l at) ≡ n = omega (arith, ap length e) in
       (sym (λ i. record { count = k i; end = end_verdict (g i) }) ∙ s.is, left e)
 
-  pub scanning-over : length l ≤ at
-      → (record { count = n; end = verdict.Whole } ≡ pass_of l) × Leaves t a₀ a (events_of l)
-  scanning-over h = scanning-end (parse-end l at h) (λ i. parse.End)
-
   pub scanning-refused : {p : Parse} {why : Refusal} {kind : ℕ} → p ≡ parse_of l at → p ≡ parse.Refused why kind
-      → (record { count = n; end = verdict.Bad why } ≡ pass_of l) × Leaves t a₀ a (events_of l)
+      → (record { count = n; end = Err why } ≡ pass_of l) × Leaves t a₀ a (events_of l)
   scanning-refused {p} h b =
       let q : parse_of l at ≡ parse.Refused _ _ = sym h ∙ b in
       let e = events-refused (length l) l at enough q in

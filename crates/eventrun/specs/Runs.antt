@@ -1,6 +1,6 @@
 -- What a file of events gives to a caller: the answer of each event, then the standings of the paths that are open at
 -- the end (document 01, "Files and tail"; "calls ours as C functions on numbers and bytes").
-use Rattle.std.specs.Prelude.{ℕ, suc, ◌+◌, ◌≡◌, Bool, true, not, ◌&&◌, cond, List, [], ◌∷◌, ◌++◌, ltb, length}
+use Rattle.std.specs.Prelude.{ℕ, suc, ◌+◌, ◌≡◌, Bool, true, not, ◌&&◌, cond, List, [], ◌∷◌, ◌++◌, ltb, length, Result, Ok, Err}
 use Rattle.base.specs.declared.types.Refusal.{Refusal}
 use Rattle.base.specs.declared.types.Refusal.TheVariants as refusal
 use Rattle.octets.specs.Octets.{le, flat, words_of, over}
@@ -8,13 +8,9 @@ use Rattle.rules.specs.Step.{Entry, allowed, fresh_record, run, trace}
 use Rattle.rules.specs.declared.types.Slot.{Slot}
 use Rattle.rules.specs.declared.types.Event.{Event}
 use Rattle.standing.specs.Standing.{standing_of, standing_bytes, fit}
-use Rattle.standing.specs.declared.types.Written.{Written}
-use Rattle.standing.specs.declared.types.Written.TheVariants as written
 use Rattle.eventfile.specs.File.{settings_of, events_of, Ending, Whole, Bad, ending_of}
 use Rattle.cells.specs.Code.{settings_row}
 use Rattle.peer.specs.Record.{record_in, record_rows, AreCoded}
-use Rattle.eventrun.specs.declared.types.Verdict.{Verdict}
-use Rattle.eventrun.specs.declared.types.Verdict.TheVariants as verdict
 use Rattle.eventrun.specs.declared.types.Scan.{Scan}
 
 -- ---- bytes
@@ -48,25 +44,25 @@ output_of file =
 -- ---- refusals
 
 -- a record that cannot be read refuses the file
-abbrev pub end_verdict : Ending → Verdict
-end_verdict Whole = verdict.Whole
-end_verdict (Bad why kind) = verdict.Bad why
+abbrev pub end_verdict : Ending → Result Unit Refusal
+end_verdict Whole = Ok tt
+end_verdict (Bad why kind) = Err why
 
-abbrev pub ended_by : Verdict → Written → Written
-ended_by verdict.Whole w = w
-ended_by (verdict.Bad why) w = written.Refused why
+abbrev pub ended_by : Result Unit Refusal → Result ℕ Refusal → Result ℕ Refusal
+ended_by (Ok tt) w = w
+ended_by (Err why) w = Err why
 
 -- 13 where the settings are cut short, 6 where one is too large, then the first record that cannot be read, then 16
-unfoldable pub file_written : List ℕ → ℕ → Written
+unfoldable pub file_written : List ℕ → ℕ → Result ℕ Refusal
 file_written file lent =
-    cond (ltb (length file) 32) (written.Refused refusal.Cut)
+    cond (ltb (length file) 32) (Err refusal.Cut)
     (cond (allowed (settings_of file)) (ended_by (end_verdict (ending_of file)) (fit (output_of file) lent))
-    (written.Refused refusal.Duration))
+    (Err refusal.Duration))
 
 -- a refusal writes nothing
-abbrev pub out_by : Written → List ℕ → List ℕ → List ℕ
-out_by (written.Count n) new old = new
-out_by (written.Refused why) new old = old
+abbrev pub out_by : Result ℕ Refusal → List ℕ → List ℕ → List ℕ
+out_by (Ok n) new old = new
+out_by (Err why) new old = old
 
 unfoldable pub out_of : List ℕ → List ℕ → List ℕ
 out_of file l = out_by (file_written file (length l)) (over (output_of file) l) l
@@ -85,7 +81,7 @@ pass_of file = record { count = length (events_of file); end = end_verdict (endi
 
 -- where no record is made
 abbrev pub not_run : Refusal → Scan
-not_run why = record { count = 0; end = verdict.Bad why }
+not_run why = record { count = 0; end = Err why }
 
 unfoldable pub plan_of : List ℕ → Scan
 plan_of file =

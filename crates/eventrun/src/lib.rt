@@ -9,7 +9,6 @@ ghost use Rattle.eventrun.specs.Runs.{plan_of, Plans, file_written, out_of};
 use base::types::Refusal;
 use rows::places::ROWS;
 use select::types::PATH_MAX_PER_PEER;
-use standing::types::Written;
 use types::*;
 
 pub mod passes;
@@ -24,7 +23,7 @@ fn plan(t: &mut [u64; 4], rec: &mut [[[u64; 4]; ROWS]; PATH_MAX_PER_PEER], file:
     if file.len() < 32 {
         return Scan {
             count: 0,
-            end: Verdict::Bad(Refusal::Cut),
+            end: Err(Refusal::Cut),
         };
     }
     let made = peer::record::new(t, rec, eventfile::settings_from(file));
@@ -33,7 +32,7 @@ fn plan(t: &mut [u64; 4], rec: &mut [[[u64; 4]; ROWS]; PATH_MAX_PER_PEER], file:
     }
     Scan {
         count: 0,
-        end: Verdict::Bad(Refusal::Duration),
+        end: Err(Refusal::Duration),
     }
 }
 
@@ -41,15 +40,12 @@ fn plan(t: &mut [u64; 4], rec: &mut [[[u64; 4]; ROWS]; PATH_MAX_PER_PEER], file:
 fn fits(count: usize, told: usize, lent: usize) -> bool
     ensures { result ≡ leb (16 * count + told) lent }
 {
-    if lent < told {
-        return false;
-    }
-    count <= (lent - told) / 16
+    told <= lent && count <= (lent - told) / 16
 }
 
 // Runs a file's events and writes each answer and, behind them, the standings of the open slots; says how many bytes.
 // 13, 6, 15, 14 and 16 write nothing. What demand 3 claims holds of these answers and of the record that they leave.
-pub fn run_events(file: &[u8], out: &mut [u8]) -> Written
+pub fn run_events(file: &[u8], out: &mut [u8]) -> Result<usize, Refusal>
     ensures { (result ≡ file_written file.now (length out.old))
         × ((out.new ≡ out_of file.now out.old) × FileDemand file.now) }
 {
@@ -58,20 +54,14 @@ pub fn run_events(file: &[u8], out: &mut [u8]) -> Written
     let mut t = [0u64; 4];
     let mut rec = [path; PATH_MAX_PER_PEER];
     let p = plan(&mut t, &mut rec, file);
-    let end = p.end;
-    let count = p.count;
-    match end {
-        Verdict::Bad(why) => Written::Refused(why),
-        Verdict::Whole => {
-            let told = slots::slots_size(&rec);
-            if fits(count, told, out.len()) {
-                peer::record::new(&mut t, &mut rec, eventfile::settings_from(file));
-                passes::write_answers(&t, &mut rec, file, out);
-                let at = 16 * count;
-                slots::write_slots(&rec, &mut out[at..]);
-                return Written::Count(at + told);
-            }
-            Written::Refused(Refusal::Lent)
-        }
+    p.end?;
+    let told = slots::slots_size(&rec);
+    if !fits(p.count, told, out.len()) {
+        return Err(Refusal::Lent);
     }
+    let _ = peer::record::new(&mut t, &mut rec, eventfile::settings_from(file));
+    passes::write_answers(&t, &mut rec, file, out);
+    let at = 16 * p.count;
+    slots::write_slots(&rec, &mut out[at..]);
+    Ok(at + told)
 }

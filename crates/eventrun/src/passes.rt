@@ -25,32 +25,21 @@ pub fn scan(t: &[u64; 4], rec: &mut [[[u64; 4]; ROWS]; PATH_MAX_PER_PEER], file:
 {
     let mut count: usize = 0;
     let mut at: usize = 32;
-    while at < file.len() {
-        let found = eventfile::record_at(file, at);
-        match found {
-            Parse::End => {
-                return Scan {
-                    count: count,
-                    end: Verdict::Whole,
-                };
-            }
+    'records: loop {
+        match eventfile::record_at(file, at) {
+            Parse::End => return Scan { count, end: Ok(()) },
             Parse::Refused(why, kind) => {
                 return Scan {
-                    count: count,
-                    end: Verdict::Bad(why),
+                    count,
+                    end: Err(why),
                 };
             }
             Parse::Event(e, next) => {
-                let words = event_row(e);
-                tell(t, rec, &words);
+                tell(t, rec, &event_row(e));
                 count += 1;
                 at = next;
             }
         }
-    }
-    Scan {
-        count: count,
-        end: Verdict::Whole,
     }
 }
 
@@ -69,22 +58,12 @@ pub fn write_answers(
     let mut from: usize = 32;
     let mut at: usize = 0;
     while 16 <= out.len() - at {
-        let found = eventfile::record_at(file, from);
-        match found {
-            Parse::End => {
-                return;
-            }
-            Parse::Refused(why, kind) => {
-                return;
-            }
-            Parse::Event(e, next) => {
-                let words = event_row(e);
-                let w = tell(t, rec, &words);
-                let answer = [w / WORD_VALUES, w % WORD_VALUES];
-                octets::put_words(&mut out[at..], &answer);
-                from = next;
-                at += 16;
-            }
-        }
+        let Parse::Event(e, next) = eventfile::record_at(file, from) else {
+            return;
+        };
+        let w = tell(t, rec, &event_row(e));
+        octets::put_words(&mut out[at..], &[w / WORD_VALUES, w % WORD_VALUES]);
+        from = next;
+        at += 16;
     }
 }

@@ -14,21 +14,19 @@ fn slot_size(p: &[[u64; 4]; ROWS]) -> usize
     ensures { (result ≡ slot_size (slot_in p.now)) × (result ≤ 52) }
 {
     if used(p) {
-        return 1 + standing::size(told(p));
+        1 + standing::size(told(p))
+    } else {
+        0
     }
-    0
 }
 
 // The bytes of eight slots.
 pub fn slots_size(rec: &[[[u64; 4]; ROWS]; PATH_MAX_PER_PEER]) -> usize
     ensures { (result ≡ length (standings_of (map slot_in rec.now))) × (result ≤ 416) }
 {
-    queries::slots(rec);
     let mut n: usize = 0;
-    let mut i: usize = 0;
-    while i < PATH_MAX_PER_PEER {
-        n += slot_size(&rec[i]);
-        i += 1;
+    for p in rec {
+        n += slot_size(p);
     }
     n
 }
@@ -45,7 +43,7 @@ fn write_slot(i: usize, p: &[[u64; 4]; ROWS], out: &mut [u8]) -> usize
     }
     if used(p) {
         octets::put(&mut out[0..], 1, i as u64);
-        standing::write(told(p), &mut out[1..]);
+        let _ = standing::write(told(p), &mut out[1..]);
         return n;
     }
     n
@@ -55,14 +53,11 @@ fn write_slot(i: usize, p: &[[u64; 4]; ROWS], out: &mut [u8]) -> usize
 pub fn write_slots(rec: &[[[u64; 4]; ROWS]; PATH_MAX_PER_PEER], out: &mut [u8])
     ensures { out.new ≡ over (standings_of (map slot_in rec.now)) out.old }
 {
-    queries::slots(rec);
     if out.len() < slots_size(rec) {
         return;
     }
     let mut at: usize = 0;
-    let mut i: usize = 0;
-    while i < PATH_MAX_PER_PEER {
-        at += write_slot(i, &rec[i], &mut out[at..]);
-        i += 1;
+    for (i, p) in rec.iter().enumerate() {
+        at += write_slot(i, p, &mut out[at..]);
     }
 }

@@ -1,5 +1,6 @@
 -- What the books hold after some of the examples; and that demand 3 holds of each of them.
 -- Assumes nothing.
+use Rattle.std.specs.Prelude.{Some, Err}
 use Prim.Native.Nat.{◌<◌, ◌^◌}
 use mathlib.Core.Bool.{true}
 use mathlib.Core.Path.{◌≡◌, refl}
@@ -18,20 +19,19 @@ use Rattle.examples.specs.Lists.{first, each_refused, eight, ordered, defers, la
 use Rattle.examples.specs.Lists.{reopened, proposals, acknowledged, twelve, up_to131, seven_eight, judges, tiers}
 use Rattle.examples.specs.Lists.{lowest, by_scores, equal, examples}
 use Rattle.examples.specs.Changes.{due_before, changes}
-use Rattle.base.specs.declared.types.MaybeLen.TheVariants as len
 
 abbrev book_of : Sample → Book
 book_of s = book_after s.settings s.events 0
 
 -- twelve search probes since the start, and what was lost last is cleared
 twelve-counted : (book_of twelve).sizing.tally ≡ record
-    { search = record { proven = len.Some 27; lost = 0; out = 0 }; cleared = true; count = 12 }
+    { search = record { proven = Some 27; lost = 0; out = 0 }; cleared = true; count = 12 }
 unfolding answers noted twelve
 twelve-counted = refl
 
 -- a rest: 100 is proven, and what is lost is cleared
 rest-cleared : (book_of up_to131).sizing.tally ≡ record
-    { search = record { proven = len.Some 100; lost = 0; out = 0 }; cleared = true; count = 1 }
+    { search = record { proven = Some 100; lost = 0; out = 0 }; cleared = true; count = 1 }
 unfolding answers noted up_to131
 rest-cleared = refl
 
@@ -51,7 +51,7 @@ unfolding answers noted eight
 eight-summed = refl
 
 -- settings of 2^62 or more: no record is made
-endless : (record_of (record { cap = 2 ^ 62; gap = 0; window = 0; horizon = 0 })).reply ≡ reply.Refused refusal.Duration
+endless : (record_of (record { cap = 2 ^ 62; gap = 0; window = 0; horizon = 0 })).reply ≡ Err refusal.Duration
 unfolding record_of
 endless = refl
 

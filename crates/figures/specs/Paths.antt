@@ -1,12 +1,11 @@
 -- The paths that the marked figures speak of, each made from a new one by the rules of the methods alone (document 01,
 -- "Twelve marked figures"). Where a figure names no instant, everything happens at instant 0, with gap, timeout and cap
 -- 0 and the draw 0.
-use Rattle.std.specs.Prelude.{ℕ, zero, suc, ◌-◌, ◌*◌, ◌^◌, true, false, cond, List, [], ◌∷◌, eqb, length}
-use Rattle.base.specs.Seq.{keep}
+use Rattle.stop.specs.declared.types.Stop.{Stop}
+use Rattle.std.specs.Prelude.{ℕ, zero, suc, ◌-◌, ◌*◌, ◌^◌, true, false, cond, List, [], ◌∷◌, eqb, length, Option, None, Some}
+use Rattle.std.specs.List.{filter}
 use Rattle.rtt.specs.Spans.{is_span}
 use Rattle.stop.specs.Silence.{seconds}
-use Rattle.stop.specs.declared.types.MaybeStop.{MaybeStop}
-use Rattle.stop.specs.declared.types.MaybeStop.TheVariants as stop
 use Rattle.live.specs.New.{new_liveness}
 use Rattle.live.specs.Answers.{answer_number, answer_value, is_accepted}
 use Rattle.live.specs.Probe.{send_of, answer_of, expire_of}
@@ -91,16 +90,16 @@ sampled now = measured (measured new_liveness 0 (millis 300)) now (millis 100)
 
 -- how many spans there are
 abbrev pub span_count : Liveness → ℕ
-span_count p = length (keep is_span p.rtts.spans)
+span_count p = length (filter is_span p.rtts.spans)
 
 -- "quiet 90, `halt` at 100 active": the first send was at 90 s
 abbrev pub halted : Liveness
 halted = halted_of (send_of new_liveness (seconds 90) (seconds 91) 27 0).path (seconds 100) true
 
 -- the gap of a stop, 0 where there is none
-abbrev pub gap_in : MaybeStop → ℕ
-gap_in stop.None = 0
-gap_in (stop.Some x) = x.gap
+abbrev pub gap_in : Option Stop → ℕ
+gap_in None = 0
+gap_in (Some x) = x.gap
 
 -- the gap of a path's stop
 abbrev pub gap_of : Liveness → ℕ

@@ -1,9 +1,9 @@
 -- The smallest moves on which the claim could break, computed: each is named for the edit in must-fail/ that breaks it,
 -- and stands above those that its edit breaks too, so that it is refused first.
 -- Assumes nothing.
+use Rattle.std.specs.Prelude.{None, Some}
 use mathlib.Core.List.{[], ◌∷◌}
 use mathlib.Core.Path.{◌≡◌, refl}
-use Rattle.base.specs.declared.types.MaybeLen.TheVariants.{None, Some}
 use Rattle.seek.specs.Rules.{proposal_of}
 use Rattle.halving.specs.Need.{need, left}
 use Rattle.halving.specs.Moves.{Send, Judge, Prove, opened, moves, MoveSends}

@@ -19,11 +19,10 @@ pub extern "C" fn hess_script(script: &[u8], out: &mut [u8]) -> u64
     script::run::run_script(script, out)
 }
 
-// The rivals of a field in words, by value.
+// The rivals of a field in words, by value. Written out, so that none need be stored.
 fn field_in(field: &[[u64; 12]; 8]) -> [Rival; PATH_MAX_PER_PEER]
     ensures { result ≡ field_in field.now }
 {
-    leads::keys::places(field);
     [
         rival_in(&field[0]),
         rival_in(&field[1]),
@@ -41,6 +40,5 @@ fn field_in(field: &[[u64; 12]; 8]) -> [Rival; PATH_MAX_PER_PEER]
 pub extern "C" fn hess_choose_rivals(field: &[[u64; 12]; 8], margin: f64) -> Reply
     ensures { result ≡ words_reply field.now margin }
 {
-    let rivals = field_in(field);
-    c_choice::of_chosen(choices::choose(rivals, margin))
+    c_choice::of_chosen(choices::choose(field_in(field), margin))
 }

@@ -1,6 +1,7 @@
 -- What holds a change of the active path (the Rust's `held` and `waits`, whose bodies are the definition), and the hold
 -- on a link's cost (document 01, "Files and tail": "`Hold` holds before at + dwell or while a report of 2 is owed").
-use Rattle.std.specs.Prelude.{ℕ, ◌-◌, Bool, not, cond, ◌&&◌, ◌||◌, ltb, Float}
+use Rattle.base.specs.declared.types.Refusal.{Refusal}
+use Rattle.std.specs.Prelude.{ℕ, ◌-◌, Bool, not, cond, ◌&&◌, ◌||◌, ltb, Float, Option, None, Some, Result, Ok, Err, true, false}
 use Rattle.std.specs.Float.{binary64}
 use Rattle.std.specs.Float.Ieee.{mul, lt, le}
 use Rattle.base.specs.Limits.{is_endless}
@@ -10,10 +11,6 @@ use Rattle.select.specs.Media.{quicker_of}
 use Rattle.select.specs.Rivals.{is_long}
 use Rattle.select.specs.declared.types.Rival.{Rival}
 use Rattle.hold.specs.declared.Hold.{Hold}
-use Rattle.select.specs.declared.types.HeldAnswer.{HeldAnswer}
-use Rattle.select.specs.declared.types.HeldAnswer.TheVariants as answers
-use Rattle.select.specs.declared.types.CostAnswer.{CostAnswer}
-use Rattle.select.specs.declared.types.CostAnswer.TheVariants as cost
 
 -- `from` runs over a quicker medium, and its score over the horizon is within the margin of that of `to`
 abbrev pub kept_of : Rival → Rival → Float → Bool
@@ -30,8 +27,8 @@ abbrev pub beats_of : Rival → Rival → Float → Bool
 beats_of to from margin = to.scored && lt (mul binary64 to.score margin) from.steady
 
 -- a flag as an answer
-abbrev pub held_if : Bool → HeldAnswer
-held_if on = cond on answers.Held answers.Free
+abbrev pub held_if : Bool → Result Bool Refusal
+held_if on = cond on (Ok true) (Ok false)
 
 -- 6: a round trip of 2 ^ 62 or more in either
 abbrev pub either_long : Rival → Rival → Bool
@@ -46,18 +43,18 @@ abbrev pub above_of : Rival → Rival → Float → Bool
 above_of to from margin = (from.steadied && to.scored) && lt (mul binary64 from.steady margin) to.score
 
 -- `held`: a change on score waits while `from` has a score over the horizon and `to` is neither faster nor beats it
-unfoldable pub held_of : Rival → Rival → Float → HeldAnswer
+unfoldable pub held_of : Rival → Rival → Float → Result Bool Refusal
 held_of to from margin =
     cond (either_long to from)
-    (answers.Refused Duration)
+    (Err Duration)
     (held_if (stays_of to from margin))
 
 -- `waits`: a change for a quicker medium waits while the score of `to` is above margin times that of `from` over the
 -- horizon
-unfoldable pub waits_of : Rival → Rival → Float → HeldAnswer
+unfoldable pub waits_of : Rival → Rival → Float → Result Bool Refusal
 waits_of to from margin =
     cond (either_long to from)
-    (answers.Refused Duration)
+    (Err Duration)
     (held_if (above_of to from margin))
 
 -- a report of 2 is owed
@@ -73,6 +70,6 @@ abbrev pub holds_of : Hold → ℕ → ℕ → Bool
 holds_of h now dwell = ltb now (deadline_of 64 h.at dwell) || ltb 0 h.owed
 
 -- `Hold::held`: 6 for a dwell of 2 ^ 62 or more; the cost while the hold holds
-unfoldable pub cost_of : Hold → ℕ → ℕ → CostAnswer
+unfoldable pub cost_of : Hold → ℕ → ℕ → Result (Option Float) Refusal
 cost_of h now dwell =
-    cond (is_endless dwell) (cost.Refused Duration) (cond (holds_of h now dwell) (cost.Cost h.cost) cost.Over)
+    cond (is_endless dwell) (Err Duration) (cond (holds_of h now dwell) (Ok (Some h.cost)) (Ok None))

@@ -1,7 +1,7 @@
 // What holds a change of the active path, and the hold on the link's cost after one.
 #![tactic(auto)]
 
-ghost use Rattle.std.specs.Prelude.{◌≡◌, ◌-◌};
+ghost use Rattle.std.specs.Prelude.{◌≡◌};
 ghost use Rattle.select.specs.Rivals.{is_long};
 ghost use Rattle.hold.specs.Hold.{kept_of, faster_of, beats_of, stays_of, above_of, either_long, held_of, waits_of};
 ghost use Rattle.hold.specs.Hold.{new_hold, report_of, holds_of, cost_of};
@@ -23,9 +23,7 @@ pub struct Hold {
 fn kept(to: Rival, from: Rival, margin: f64) -> bool
     ensures { result ≡ kept_of to from margin }
 {
-    let m = from.medium;
-    let n = to.medium;
-    select::media::quicker(m, n)
+    select::media::quicker(from.medium, to.medium)
         & ((from.steadied & to.steadied) & (from.steady <= to.steady * margin))
 }
 
@@ -72,36 +70,25 @@ fn either_long(to: Rival, from: Rival) -> bool
 }
 
 // Whether a change on score from the active path `from` to `to` is held.
-pub fn held(to: Rival, from: Rival, margin: f64) -> HeldAnswer
+#[tactic(auto, unfolding(crate::specs::Hold::held_of))]
+pub fn held(to: Rival, from: Rival, margin: f64) -> Result<bool, Refusal>
     ensures { result ≡ held_of to from margin }
 {
     if either_long(to, from) {
-        return HeldAnswer::Refused(Refusal::Duration);
+        return Err(Refusal::Duration);
     }
-    if stays(to, from, margin) {
-        return HeldAnswer::Held;
-    }
-    HeldAnswer::Free
+    Ok(stays(to, from, margin))
 }
 
 // Whether a change for its faster medium from the active path `from` to `to` is held.
-pub fn waits(to: Rival, from: Rival, margin: f64) -> HeldAnswer
+#[tactic(auto, unfolding(crate::specs::Hold::waits_of))]
+pub fn waits(to: Rival, from: Rival, margin: f64) -> Result<bool, Refusal>
     ensures { result ≡ waits_of to from margin }
 {
     if either_long(to, from) {
-        return HeldAnswer::Refused(Refusal::Duration);
+        return Err(Refusal::Duration);
     }
-    if above(to, from, margin) {
-        return HeldAnswer::Held;
-    }
-    HeldAnswer::Free
-}
-
-// One less, and 0 of none.
-fn less_one(owed: u8) -> u8
-    ensures { result ≡ owed - 1 }
-{
-    if owed < 1 { 0 } else { owed - 1 }
+    Ok(above(to, from, margin))
 }
 
 // Whether a hold holds: before the dwell has passed, or while a report is owed.
@@ -120,8 +107,8 @@ impl Hold {
         ensures { result ≡ new_hold cost at }
     {
         Hold {
-            cost: cost,
-            at: at,
+            cost,
+            at,
             owed: Hold::REPORTS,
         }
     }
@@ -130,24 +117,20 @@ impl Hold {
     pub fn report(self) -> Self
         ensures { result ≡ report_of self }
     {
-        let owed = less_one(self.owed);
         Hold {
-            cost: self.cost,
-            at: self.at,
-            owed: owed,
+            owed: self.owed.saturating_sub(1),
+            ..self
         }
     }
 
     // The cost held at `now`, under a switch dwell of `dwell`.
-    pub fn held(self, now: u64, dwell: u64) -> CostAnswer
+    #[tactic(auto, unfolding(crate::specs::Hold::cost_of))]
+    pub fn held(self, now: u64, dwell: u64) -> Result<Option<f64>, Refusal>
         ensures { result ≡ cost_of self now dwell }
     {
         if DURATION_END <= dwell {
-            return CostAnswer::Refused(Refusal::Duration);
+            return Err(Refusal::Duration);
         }
-        if holds(self, now, dwell) {
-            return CostAnswer::Cost(self.cost);
-        }
-        CostAnswer::Over
+        Ok(holds(self, now, dwell).then_some(self.cost))
     }
 }

@@ -7,63 +7,44 @@ ghost use Rattle.ring.specs.Ring.{drop_since};
 ghost use Rattle.ring.specs.Lapse.{is_padded};
 
 use base::limits::PATH_PROBE_MIN_SIZE;
-use base::types::MaybeId;
-use ring::types::*;
+use ring::ring::counts;
+use ring::types::{Ids, Sent};
 
 // The identifier that the next probe takes: the draw is used for the first only.
-pub fn taken(next: MaybeId, draw: u32) -> u32
+pub fn taken(next: Option<u32>, draw: u32) -> u32
     ensures { result ≡ taken_of next draw }
 {
-    match next {
-        MaybeId::None => draw,
-        MaybeId::Some(id) => id,
-    }
+    next.unwrap_or(draw)
 }
 
 // The identifiers once a probe has taken id: each later one adds 1 modulo 2^32.
 pub fn next_ids(ids: Ids, id: u32) -> Ids
     ensures { result ≡ next_ids ids id }
 {
-    let answered = ids.answered;
-    let epoch = ids.epoch;
-    let since = ids.since;
-    let next_id = MaybeId::Some(std::num::wrapping_add_u32(id, 1));
     Ids {
-        next_id: next_id,
-        answered: answered,
-        epoch: epoch,
-        since: since,
+        next_id: Some(id.wrapping_add(1)),
+        ..ids
     }
 }
 
 // The identifiers before a send: since is dropped if every waiting probe counts.
-pub fn drop_since(ids: Ids, ring: [Sent; RING]) -> Ids
-    ensures { result ≡ drop_since ids ring }
+pub fn drop_since(ids: Ids, ring: &[Sent]) -> Ids
+    ensures { result ≡ drop_since ids ring.now }
 {
-    let since = ids.since;
-    if ring::ring::all_count(ring, since) {
-        let next_id = ids.next_id;
-        let answered = ids.answered;
-        let epoch = ids.epoch;
-        let none = MaybeId::None;
-        Ids {
-            next_id: next_id,
-            answered: answered,
-            epoch: epoch,
-            since: none,
-        }
+    if ring::ring::all_count(ring, ids.since) {
+        Ids { since: None, ..ids }
     } else {
         ids
     }
 }
 
 // The newest identifier answered in time: it moves only from none or to a later one.
-fn newest(answered: MaybeId, id: u32) -> u32
+fn newest(answered: Option<u32>, id: u32) -> u32
     ensures { result ≡ newer answered id }
 {
     match answered {
-        MaybeId::None => id,
-        MaybeId::Some(a) => { if base::serial::after(id, a) { id } else { a } }
+        Some(a) if !base::serial::after(id, a) => a,
+        _ => id,
     }
 }
 
@@ -71,16 +52,9 @@ fn newest(answered: MaybeId, id: u32) -> u32
 pub fn answered_ids(ids: Ids, id: u32) -> Ids
     ensures { result ≡ answered_ids ids id }
 {
-    let next_id = ids.next_id;
-    let old = ids.answered;
-    let answered = MaybeId::Some(newest(old, id));
-    let epoch = ids.epoch;
-    let since = ids.since;
     Ids {
-        next_id: next_id,
-        answered: answered,
-        epoch: epoch,
-        since: since,
+        answered: Some(newest(ids.answered, id)),
+        ..ids
     }
 }
 
@@ -88,14 +62,9 @@ pub fn answered_ids(ids: Ids, id: u32) -> Ids
 pub fn fresh_ids(ids: Ids) -> Ids
     ensures { result ≡ fresh_ids ids }
 {
-    let next_id = ids.next_id;
-    let answered = ids.answered;
-    let since = ids.since;
     Ids {
-        next_id: next_id,
-        answered: answered,
-        epoch: next_id,
-        since: since,
+        epoch: ids.next_id,
+        ..ids
     }
 }
 
@@ -103,14 +72,9 @@ pub fn fresh_ids(ids: Ids) -> Ids
 pub fn thawed_ids(ids: Ids) -> Ids
     ensures { result ≡ thawed_ids ids }
 {
-    let next_id = ids.next_id;
-    let answered = ids.answered;
-    let epoch = ids.epoch;
     Ids {
-        next_id: next_id,
-        answered: answered,
-        epoch: epoch,
-        since: next_id,
+        since: ids.next_id,
+        ..ids
     }
 }
 
@@ -118,17 +82,14 @@ pub fn thawed_ids(ids: Ids) -> Ids
 pub fn counted(ids: Ids, id: u32) -> bool
     ensures { result ≡ is_counted ids id }
 {
-    let since = ids.since;
-    let answered = ids.answered;
-    ring::ring::counts(since, id) & ring::ring::counts(answered, id)
+    counts(ids.since, id) && counts(ids.answered, id)
 }
 
 // Whether the lapse of the probe sets `fallen`: above 27 bytes, and the epoch is not after its identifier.
 pub fn padded(ids: Ids, s: Sent) -> bool
     ensures { result ≡ is_padded ids s }
 {
-    let epoch = ids.epoch;
-    (PATH_PROBE_MIN_SIZE < s.len) & ring::ring::counts(epoch, s.probe_id)
+    PATH_PROBE_MIN_SIZE < s.len && counts(ids.epoch, s.probe_id)
 }
 
 // The misses with one more, or as they are; they stop at 2^32 - 1.
@@ -136,9 +97,8 @@ pub fn missed(misses: u32, miss: bool) -> u32
     ensures { result ≡ missed_by misses miss }
 {
     if miss {
-        if misses < 0xffff_ffff {
-            return misses + 1;
-        }
+        misses.saturating_add(1)
+    } else {
+        misses
     }
-    misses
 }

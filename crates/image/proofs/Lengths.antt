@@ -1,17 +1,16 @@
 -- How many bytes each part of the image has. Assumes nothing.
+use Rattle.stop.specs.declared.types.Stop.{Stop}
+use Rattle.std.specs.Prelude.{Option, None, Some}
 use mathlib.Core.Path.{◌≡◌, refl, ap, ◌∙◌}
 use mathlib.Core.List.{List, [], ◌∷◌, ◌++◌}
 use Prim.Native.Nat.{ℕ, ◌*◌}
 use native.Mathlib.Omega.{arith}
 use lib.ListN.{length, length-append}
-use Rattle.base.specs.declared.types.MaybeTime.{MaybeTime}
 use Rattle.ring.specs.declared.types.Sent.{Sent}
 use Rattle.ring.specs.declared.types.Ids.{Ids}
 use Rattle.rtt.specs.declared.types.Sample.{Sample}
 use Rattle.rtt.specs.declared.types.Span.{Span}
 use Rattle.rtt.specs.declared.types.Rtts.{Rtts}
-use Rattle.stop.specs.declared.types.MaybeStop.{MaybeStop}
-use Rattle.stop.specs.declared.types.MaybeStop.TheVariants.{None, Some}
 use Rattle.stop.specs.declared.types.Silence.{Silence}
 use Rattle.seek.specs.declared.types.Sizes.{Sizes}
 use Rattle.seek.specs.declared.types.Ladder.{Ladder}
@@ -36,11 +35,11 @@ samples-length l e = sum sample_words 3 (λ x. refl) l e
 pub spans-length : (l : List Span) {n : ℕ} → length l ≡ n → length (flat span_words l) ≡ 4 * n
 spans-length l e = sum span_words 4 (λ x. refl) l e
 
-pub stop-length : (x : MaybeStop) → length (stop_words x) ≡ 7
+pub stop-length : (x : Option Stop) → length (stop_words x) ≡ 7
 stop-length None = refl
 stop-length (Some s) = refl
 
-of-stop : (ids : Ids) (quiet : MaybeTime) (x : MaybeStop) → length (ids_words ids ++ time_words quiet ++ stop_words x) ≡ 17
+of-stop : (ids : Ids) (quiet : Option ℕ) (x : Option Stop) → length (ids_words ids ++ time_words quiet ++ stop_words x) ≡ 17
 of-stop ids quiet None = refl
 of-stop ids quiet (Some s) = refl
 

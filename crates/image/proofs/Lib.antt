@@ -1,4 +1,3 @@
 -- Laws of the writers of words, over any part and place.
 pub mod PartLaws
-pub mod StopLaw
 pub mod Lengths

@@ -9,9 +9,9 @@ use native.Mathlib.Omega.{arith}
 use borrow.Author.Tests.{le-leb, lt-leb}
 use borrow.Rule.Slice.PartMut.{mid_of, put_mid}
 use lib.Dec.{T, leb, leb→le}
-use lib.ListN.{length, get_or}
+use lib.ListN.{length, drop, get_or}
 use Rattle.octets.specs.Octets.{le, flat, over, words_of}
-use Rattle.octets.proofs.Fill.{Filled, Filling, le-length, flat-length, flat_append, over-not, nothing, fill, filled-length, filled-over, filling-start, filling-room, filling-next, filling-end}
+use Rattle.octets.proofs.Fill.{Filled, Filling, le-length, flat-length, flat_append, over-fits, over-not, nothing, fill, filled-over, filling-start, filling-next, filling-end}
 
 pub words-length : (xs : List ℕ) → length (words_of xs) ≡ 8 * length xs
 words-length xs = flat-length (le 8) 8 (le-length 8) xs
@@ -32,10 +32,21 @@ refused {l} {k} ws e h =
 pub written : {l₀ l : List ℕ} (ws : List ℕ) {n : ℕ} → Filled l₀ (words_of ws) l n → (true ≡ leb n (length l₀)) × (l ≡ over (words_of ws) l₀)
 written {l₀} {l} ws {n} f = (sym (le-leb n (length l₀) f.room), filled-over f)
 
--- nothing is written yet
-pub none_yet : (l : List ℕ) → Filled l (words_of []) l 0
-unfolding flat
-none_yet l = nothing l
+-- the first words are written over the front; all N bytes are lent
+pub first : {l₀ m w : List ℕ} {k N : ℕ} (b : List ℕ) → N ≤ length l₀ → w ≡ b → length b ≡ k → T (leb (8 * k) N)
+    → m ≡ over (words_of w) l₀ → Filled l₀ (words_of b) m (8 * k)
+first {l₀} {m} {w} {k} {N} b h q e t o =
+    let n : length (words_of b) ≡ 8 * k = words-length b ∙ ap (λ (z : ℕ). 8 * z) e in
+    let r : 8 * k ≤ length l₀ = omega (arith, leb→le (8 * k) N t) in
+    record {
+      long = n;
+      room = r;
+      is =
+          o
+          ∙ ap (λ (z : List ℕ). over (words_of z) l₀) q
+          ∙ over-fits (words_of b) l₀ (omega (arith, n))
+          ∙ ap (λ (z : ℕ). words_of b ++ drop z l₀) n;
+    }
 
 -- the next words are written behind those before them; all N bytes are lent
 pub part : {l₀ l m w : List ℕ} {at k N : ℕ} (ws b : List ℕ) → N ≤ length l₀ → Filled l₀ (words_of ws) l at → w ≡ b → length b ≡ k → T (leb (at + 8 * k) N) → m ≡ over (words_of w) (mid_of at (length l - at) l)
@@ -57,12 +68,6 @@ putting-start {A} {g} {w} {xs} {n} {l₀} each h k =
     record { held = filling-start wide h k₂ (nothing l₀) }
 
 module _ {A : Type 0} {g : A → List ℕ} {w : ℕ} {xs : List A} {n : ℕ} {l₀ l : List ℕ} where
-  pub putting-length : {at i : ℕ} → Putting g w xs n l₀ l at i → length l ≡ length l₀
-  putting-length p = filled-length p.held.done
-
-  pub putting-room : {at i : ℕ} → Putting g w xs n l₀ l at i → i < n → at + w ≤ length l
-  putting-room p h = filling-room p.held h
-
   pub putting-next : {at i : ℕ} → Putting g w xs n l₀ l at i → i < n → (d : A) {m ws : List ℕ} → ws ≡ g (get_or xs i d) → m ≡ over (words_of ws) (mid_of at (length l - at) l)
       → Putting g w xs n l₀ (put_mid at (length l - at) l m) (at + w) (i + 1)
   putting-next {at} {i} p h d {m} {ws} q o =

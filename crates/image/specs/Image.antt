@@ -1,15 +1,11 @@
 -- The image of a path, for the host that runs both sides (document 01, "Forms the Rust can't lend": it "calls ours as C
 -- functions on numbers and bytes"): all that a path keeps as 225 numbers of eight bytes, so that the two are compared
 -- field by field. What may be missing is a tag, 1 or 0, and a value, 0 if missing.
-use Rattle.std.specs.Prelude.{List, [], ◌∷◌, ◌++◌, ℕ, replicate}
+use Rattle.stop.specs.declared.types.Stop.{Stop}
+use Rattle.std.specs.Prelude.{List, [], ◌∷◌, ◌++◌, ℕ, replicate, Option, None, Some, unwrap_or}
 use Rattle.base.specs.Seq.{flag_of}
-use Rattle.base.specs.Missing.{time_tag, time_or_zero}
+use Rattle.base.specs.Missing.{tag}
 use Rattle.total.specs.Patterns.{etx_bits}
-use Rattle.base.specs.declared.types.MaybeId.{MaybeId}
-use Rattle.base.specs.declared.types.MaybeId.TheVariants as id
-use Rattle.base.specs.declared.types.MaybeTime.{MaybeTime}
-use Rattle.base.specs.declared.types.MaybeLen.{MaybeLen}
-use Rattle.base.specs.declared.types.MaybeLen.TheVariants as len
 use Rattle.ring.specs.declared.types.Sent.{Sent}
 use Rattle.ring.specs.declared.types.Ids.{Ids}
 use Rattle.rtt.specs.declared.types.Sample.{Sample}
@@ -17,34 +13,14 @@ use Rattle.rtt.specs.declared.types.Span.{Span}
 use Rattle.rtt.specs.declared.types.Rtts.{Rtts}
 use Rattle.seek.specs.declared.types.Sizes.{Sizes}
 use Rattle.seek.specs.declared.types.Ladder.{Ladder}
-use Rattle.stop.specs.declared.types.MaybeStop.{MaybeStop}
-use Rattle.stop.specs.declared.types.MaybeStop.TheVariants as stop
 use Rattle.stop.specs.declared.types.Silence.{Silence}
 use Rattle.live.specs.declared.types.Traffic.{Traffic}
 use Rattle.live.specs.declared.types.Liveness.{Liveness}
 use Rattle.octets.specs.Octets.{flat, words_of}
 
--- an identifier that may be missing
-abbrev pub id_tag : MaybeId → ℕ
-id_tag id.None = 0
-id_tag (id.Some x) = 1
-
-abbrev pub id_or_zero : MaybeId → ℕ
-id_or_zero id.None = 0
-id_or_zero (id.Some x) = x
-
 -- an instant or a duration that may be missing
-abbrev pub time_words : MaybeTime → List ℕ
-time_words x = time_tag x ∷ time_or_zero x ∷ []
-
--- a length that may be missing
-abbrev pub len_tag : MaybeLen → ℕ
-len_tag len.None = 0
-len_tag (len.Some n) = 1
-
-abbrev pub len_or_zero : MaybeLen → ℕ
-len_or_zero len.None = 0
-len_or_zero (len.Some n) = n
+abbrev pub time_words : Option ℕ → List ℕ
+time_words x = tag x ∷ unwrap_or x 0 ∷ []
 
 -- a place of the ring or of the late list: used, then what stands there, which says nothing where it is not used
 abbrev pub sent_words : Sent → List ℕ
@@ -53,26 +29,26 @@ sent_words s = flag_of s.used ∷ s.probe_id ∷ s.at ∷ s.due ∷ s.len ∷ []
 -- the identifiers: next, answered, epoch, since
 abbrev pub ids_words : Ids → List ℕ
 ids_words m =
-    id_tag m.next_id ∷ id_or_zero m.next_id ∷ id_tag m.answered ∷ id_or_zero m.answered
-    ∷ id_tag m.epoch ∷ id_or_zero m.epoch ∷ id_tag m.since ∷ id_or_zero m.since ∷ []
+    tag m.next_id ∷ unwrap_or m.next_id 0 ∷ tag m.answered ∷ unwrap_or m.answered 0
+    ∷ tag m.epoch ∷ unwrap_or m.epoch 0 ∷ tag m.since ∷ unwrap_or m.since 0 ∷ []
 
 -- the stop; seven zeros if there is none
-abbrev pub stop_words : MaybeStop → List ℕ
-stop_words stop.None = replicate 7 0
-stop_words (stop.Some s) =
-    1 ∷ s.free ∷ s.gap ∷ s.used ∷ time_tag s.until ∷ time_or_zero s.until ∷ flag_of s.owed ∷ []
+abbrev pub stop_words : Option Stop → List ℕ
+stop_words None = replicate 7 0
+stop_words (Some s) =
+    1 ∷ s.free ∷ s.gap ∷ s.used ∷ tag s.until ∷ unwrap_or s.until 0 ∷ flag_of s.owed ∷ []
 
 -- the misses; the last size and whether it fell; the proven size; the search's instant, probe, length and lost ones
 abbrev pub size_words : ℕ → Ladder → Sizes → List ℕ
 size_words misses l s =
-    misses ∷ len_tag l.last ∷ len_or_zero l.last ∷ flag_of l.fallen ∷ len_tag s.proven ∷ len_or_zero s.proven
-    ∷ time_tag s.seek.at ∷ time_or_zero s.seek.at ∷ s.seek.probe_id ∷ s.seek.len ∷ s.seek.lost ∷ []
+    misses ∷ tag l.last ∷ unwrap_or l.last 0 ∷ flag_of l.fallen ∷ tag s.proven ∷ unwrap_or s.proven 0
+    ∷ tag s.seek.at ∷ unwrap_or s.seek.at 0 ∷ s.seek.probe_id ∷ s.seek.len ∷ s.seek.lost ∷ []
 
 -- the frames received, their bytes, and when the last frame and the last session datagram came
 abbrev pub traffic_words : Traffic → List ℕ
 traffic_words t =
-    t.frames ∷ t.bytes ∷ time_tag t.heard_at ∷ time_or_zero t.heard_at ∷ time_tag t.data_at
-    ∷ time_or_zero t.data_at ∷ []
+    t.frames ∷ t.bytes ∷ tag t.heard_at ∷ unwrap_or t.heard_at 0 ∷ tag t.data_at
+    ∷ unwrap_or t.data_at 0 ∷ []
 
 -- a place of the samples: used, then what stands there
 abbrev pub sample_words : Sample → List ℕ

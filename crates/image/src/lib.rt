@@ -20,10 +20,8 @@ pub fn write_image(out: &mut [u8], path: Liveness) -> bool
     if out.len() < 1800 {
         return false;
     }
-    let rtts = path.rtts;
-    let etx = [etx_bits(path.etx)];
-    write_front(&mut out[0..], path);
-    write_rtts(&mut out[752..], rtts);
-    octets::put_words(&mut out[1792..], &etx);
+    write_front(out, path);
+    write_rtts(&mut out[752..], path.rtts);
+    octets::put_words(&mut out[1792..], &[etx_bits(path.etx)]);
     true
 }

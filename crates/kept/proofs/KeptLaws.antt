@@ -1,5 +1,6 @@
 -- Each method keeps what is kept of a path, whatever its numbers; and so do any calls one after the other.
 -- Assumes nothing.
+use Rattle.std.specs.Prelude.{Option, None, Some}
 use Prim.Native.Nat.{ℕ}
 use mathlib.Core.Path.{◌≡◌, refl, ◌∙◌}
 use mathlib.Core.Bool.{Bool, true, not, ◌&&◌}
@@ -9,9 +10,6 @@ use borrow.Author.Tests.{ltb-false, leb-false}
 use lib.Dec.{leb, ltb, eqb}
 use lib.ListN.{length, length-set}
 use Rattle.base.specs.Limits.{max_len, min_len, is_overlong, is_undersize, is_endless}
-use Rattle.base.specs.declared.types.MaybeId.{MaybeId}
-use Rattle.base.specs.declared.types.MaybeLen.{MaybeLen}
-use Rattle.base.specs.declared.types.MaybeLen.TheVariants as len
 use Rattle.base.proofs.Cases.{on-flag, cond_cases}
 use Rattle.ring.specs.Ring.{max_waiting, max_late, no_sent, first_free, found, Closed}
 use Rattle.ring.specs.Lapse.{is_passed, defer_of, scan_of}
@@ -71,7 +69,7 @@ unfolding seek.settled_search
 settled-proven s id gap =
     on-flag (not (eqb s.seek.len 0) && eqb s.seek.probe_id id) (λ e. rw e) (λ e. rw e)
 
-judged-proven : (s : Sizes) (answered : MaybeId) (now timeout gap : ℕ)
+judged-proven : (s : Sizes) (answered : Option ℕ) (now timeout gap : ℕ)
     → (seek.judged_search s answered now timeout gap).sizes.proven ≡ s.proven
 unfolding seek.judged_search
 judged-proven s answered now timeout gap =
@@ -152,9 +150,9 @@ module _ {p : Liveness} (k : Kept p) where
   unfolding seek_answer_of
   kept-seek-answer id gap = cond_cases Keeps (is_endless gap) _ _ (λ e. k) (λ e. by-len (seek.settled_search p.sizes id gap).len)
     where
-      by-len : (n : MaybeLen) → Kept (settled_by p n (seek.settled_search p.sizes id gap)).path
-      by-len len.None = k
-      by-len (len.Some n) = in-sizes k _ (rw (settled-proven p.sizes id gap) k.provable)
+      by-len : (n : Option ℕ) → Kept (settled_by p n (seek.settled_search p.sizes id gap)).path
+      by-len None = k
+      by-len (Some n) = in-sizes k _ (rw (settled-proven p.sizes id gap) k.provable)
 
   pub kept-seek-proved : (sent acked now : ℕ) → Kept (seek_proved_of p sent acked now).path
   unfolding seek_proved_of

@@ -13,14 +13,8 @@ fn octet(x: u64) -> u8
     (x % 256) as u8
 }
 
-// A number of 8 bits as a word.
-fn wide_octet(x: u8) -> u64
-    ensures { (result ≡ x) × (result < 256) }
-{
-    x as u64
-}
-
 // The event that four words say.
+#[tactic(auto, unfolding(cells::specs::Cells::event_in))]
 pub fn event_in(t: [u64; 4]) -> Event
     ensures { result ≡ event_in t }
 {
@@ -42,16 +36,16 @@ pub fn event_in(t: [u64; 4]) -> Event
 pub fn event_row(e: Event) -> [u64; 4]
     ensures { (result ≡ event_row e) × (event_in result ≡ e) }
 {
-    let id = wide(e.id);
-    let len = wide(e.len);
-    let acked = wide(e.acked);
-    let kind = wide_octet(e.kind);
-    let slot = wide_octet(e.slot);
-    let flags = wide_octet(e.flags);
+    let kind = u64::from(e.kind);
+    let slot = u64::from(e.slot);
+    let flags = u64::from(e.flags);
     [
         e.now,
         e.span,
-        id + len * 0x1_0000_0000,
-        acked + kind * 0x1_0000_0000 + slot * 0x100_0000_0000 + flags * 0x1_0000_0000_0000,
+        u64::from(e.id) + u64::from(e.len) * 0x1_0000_0000,
+        u64::from(e.acked)
+            + kind * 0x1_0000_0000
+            + slot * 0x100_0000_0000
+            + flags * 0x1_0000_0000_0000,
     ]
 }

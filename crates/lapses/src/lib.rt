@@ -3,13 +3,13 @@
 #![tactic(auto)]
 
 ghost use Rattle.std.specs.Prelude.{◌≡◌};
-ghost use Rattle.base.specs.Seq.{position};
+ghost use Rattle.std.specs.List.{position_from};
 ghost use Rattle.ring.specs.Lapse.{passed_at, is_passed, defer_of, scan_of};
 
-use base::types::*;
-use ring::types::*;
+use base::time::deadline;
+use ring::types::{RING, Scanned, Sent};
 
-// Whether a due instant has passed.
+// Whether a due instant has passed. `now` and `overdue` stay two arguments, as in `is_passed` of specs/Lapse.antt.
 fn passed(due: u64, now: u64, overdue: bool) -> bool
     ensures { result ≡ passed_at now overdue due }
 {
@@ -20,78 +20,44 @@ fn passed(due: u64, now: u64, overdue: bool) -> bool
 pub fn is_passed(s: Sent, now: u64, overdue: bool) -> bool
     ensures { result ≡ is_passed now overdue s }
 {
-    if s.used {
-        passed(s.due, now, overdue)
-    } else {
-        false
-    }
+    s.used && passed(s.due, now, overdue)
 }
 
-// The place of the first probe whose due has passed, or 8.
-fn first_passed(ring: [Sent; RING], now: u64, overdue: bool) -> usize
-    ensures { result ≡ position (is_passed now overdue) ring }
+// The place of the first probe whose due has passed.
+fn first_passed(ring: &[Sent], now: u64, overdue: bool) -> Option<usize>
+    ensures { result ≡ position_from (is_passed now overdue) 0 ring.now }
 {
-    let mut i: usize = 0;
-    while i < RING {
-        let s = ring[i];
-        if is_passed(s, now, overdue) {
-            return i;
-        }
-        i += 1;
-    }
-    i
+    ring.iter().position(|s| is_passed(*s, now, overdue))
 }
 
 // The due that a probe gets in place of its own where data arrived after it was sent, unless that has passed too.
-pub fn defer(s: Sent, data_at: MaybeTime, cap: u64, now: u64, overdue: bool) -> MaybeTime
+pub fn defer(s: Sent, data_at: Option<u64>, cap: u64, now: u64, overdue: bool) -> Option<u64>
     ensures { result ≡ defer_of data_at cap now overdue s }
 {
-    match data_at {
-        MaybeTime::None => MaybeTime::None,
-        MaybeTime::Some(t) => {
-            if s.at < t {
-                let until = base::time::deadline(s.at, cap);
-                if passed(until, now, overdue) {
-                    MaybeTime::None
-                } else {
-                    MaybeTime::Some(until)
-                }
-            } else {
-                MaybeTime::None
-            }
-        }
+    if data_at? <= s.at {
+        return None;
+    }
+    let until = deadline(s.at, cap);
+    if passed(until, now, overdue) {
+        None
+    } else {
+        Some(until)
     }
 }
 
 // Defers probes, and gives the place of the one that lapses.
-pub fn scan(ring: [Sent; RING], data_at: MaybeTime, cap: u64, now: u64, overdue: bool) -> Scanned
+pub fn scan(ring: [Sent; RING], data_at: Option<u64>, cap: u64, now: u64, overdue: bool) -> Scanned
     ensures { result ≡ scan_of (is_passed now overdue) (defer_of data_at cap now overdue) ring }
 {
     let mut left = ring;
     let slot = loop {
-        let i = first_passed(left, now, overdue);
-        if i >= RING {
+        let Some(i) = first_passed(&left, now, overdue) else {
+            break RING;
+        };
+        let Some(until) = defer(left[i], data_at, cap, now, overdue) else {
             break i;
-        }
-        let s = left[i];
-        let wait = defer(s, data_at, cap, now, overdue);
-        match wait {
-            MaybeTime::None => {
-                break i;
-            }
-            MaybeTime::Some(until) => {
-                left[i] = Sent {
-                    at: s.at,
-                    due: until,
-                    probe_id: s.probe_id,
-                    len: s.len,
-                    used: s.used,
-                };
-            }
-        }
+        };
+        left[i].due = until;
     };
-    Scanned {
-        ring: left,
-        slot: slot,
-    }
+    Scanned { ring: left, slot }
 }

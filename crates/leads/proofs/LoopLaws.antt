@@ -1,16 +1,18 @@
--- What the loops over a field's rows and over keys have done: the keys are filled one by one; of those seen the least is
--- held with its place.
+-- The keys that are made of a field's rows and of keys, each by its place; and what the loop over keys has done: of those
+-- seen the least is held with its place.
 -- Assumes nothing.
 use Prim.Native.Nat.{ℕ, zero, suc, ◌+◌, ◌<◌, ◌≤◌}
-use mathlib.Core.Path.{◌≡◌, refl, ap, sym, ◌∙◌}
+use mathlib.Core.Path.{◌≡◌, refl, ap, sym, subst, ◌∙◌}
 use mathlib.Core.Bool.{Bool, true, false, not, cond, ◌&&◌}
 use mathlib.Core.List.{List, [], ◌∷◌, map}
 use native.Mathlib.Omega.{arith}
 use borrow.Author.Tests.{lt-ltb, le-ltb, le-leb, eq-eqb, ne_eqb, ltb-true, ltb-false}
 use lib.Dec.{ltb, leb, eqb}
-use lib.ListN.{length, get_or, set, length-set, length-map}
-use lib.Seq.{get_or-set_same, get_or-set_other}
-use Rattle.base.specs.Seq.{keep, position}
+use lib.ListN.{length, get_or, length-map}
+use Rattle.std.specs.Fn.{Called, Mut}
+use Rattle.std.specs.Array.{IsFromFnResult, IsFromFnResultFrom}
+use Rattle.std.specs.List.{filter}
+use Rattle.base.specs.Seq.{position}
 use Rattle.base.specs.First.{head_of, unbeaten}
 use Rattle.base.proofs.Cases.{on-flag, on-order, never}
 use Rattle.base.proofs.ScanLaws.{every-at, every_of, position-is}
@@ -63,7 +65,7 @@ at-is (w ∷ ws) (suc j) h = at-is ws j (omega arith)
 pub field-long : (ws : List (List ℕ)) → length (field_in ws) ≡ length ws
 field-long ws = length-map ws rival_in
 
--- ---- keys, filled one by one
+-- ---- keys, filled at each place
 
 -- the places before i have what they are to have
 pub record Filling (want out : List ℕ) (i : ℕ) : Type 0 where
@@ -72,81 +74,107 @@ pub record Filling (want out : List ℕ) (i : ℕ) : Type 0 where
   pub done : (j : ℕ) → j < i → get_or out j 0 ≡ get_or want j 0
 
 module _ {want out : List ℕ} where
-  pub filling-start : length want ≡ 8 → length out ≡ 8 → Filling want out 0
-  filling-start h k = record { wants = h; long = k; done = λ j m. absurd (omega arith) }
-
-  pub filling-next : {i v : ℕ} → Filling want out i → i < 8 → v ≡ get_or want i 0 → Filling want (set out i v) (i + 1)
-  filling-next {i} {v} s h e =
-      record {
-        wants = s.wants;
-        long = length-set out i v ∙ s.long;
-        done =
-            λ j m.
-            on-order j i
-            (λ o. get_or-set_other out i j v 0 (omega arith) ∙ s.done j o)
-            (λ o. let z : j ≡ i = omega arith in rw z (get_or-set_same out i v 0 (omega (arith, s.long)) ∙ e));
-      }
-
   pub filling-end : {i : ℕ} → Filling want out i → 8 ≤ i → out ≡ want
   filling-end {i} s h =
       list_same out want (s.long ∙ sym s.wants) (λ j m. s.done j (omega (arith, s.long)))
 
--- of the rows' rivals
-module _ (f : Rival → ℕ) (ws : List (List ℕ)) (n : length ws ≡ 8) where
-  pub rows_start : {out : List ℕ} → length out ≡ 8 → Filling (map f (field_in ws)) out 0
-  rows_start h = filling-start (length-map (field_in ws) f ∙ field-long ws ∙ n) h
+-- a function that no call changes, called at each place: what each call gives has what P says of its place
+module _ {F : Type 0} (g : Mut F (ℕ × Unit {0}) ℕ) (f : F) (P : ℕ → ℕ → Type 0)
+    (h : (i y : ℕ) (q : F) → Called g f (i, tt) y q → (q ≡ f) × P i y) where
+  made-from : (n i : ℕ) (e : F) (ys : List ℕ) → e ≡ f → IsFromFnResultFrom g e ys i n → (j : ℕ) → i ≤ j → j < i + n
+      → P j (get_or ys j 0)
+  made-from zero i e ys s r j l m = absurd (omega arith)
+  made-from (suc n) i e ys s r j l m =
+      let one = h i r.1 r.0 (subst (λ (x : F). Called g x (i, tt) r.1 r.0) s r.3) in
+      on-order i j
+      (λ o. made-from n (i + 1) r.0 ys one.0 r.4 j (omega arith) (omega arith))
+      (λ o. let z : j ≡ i = omega arith in rw (z, r.2.1 0) one.1)
 
-  pub rows_next : {out : List ℕ} {i v : ℕ} → Filling (map f (field_in ws)) out i → i < 8 → v ≡ f (rival_in (get_or ws i []))
-      → Filling (map f (field_in ws)) (set out i v) (i + 1)
-  rows_next {out} {i} s h e =
-      filling-next s h
-      (e
-      ∙ ap f (sym (at-is ws i (omega (arith, n))))
-      ∙ sym (map_at f no_rival (field_in ws) i (omega (arith, n, field-long ws))))
+  made-at : {ys : List ℕ} → IsFromFnResult g f ys 8 → (j : ℕ) → j < 8 → P j (get_or ys j 0)
+  made-at {ys} r j m = made-from 8 0 f ys refl r.each j (omega arith) (omega arith)
+
+  made-whole : {ys want : List ℕ} → IsFromFnResult g f ys 8 → length want ≡ 8
+      → ((j : ℕ) → j < 8 → P j (get_or ys j 0) → get_or ys j 0 ≡ get_or want j 0) → ys ≡ want
+  made-whole {ys} r n e =
+      filling-end {i = 8} (record { wants = n; long = r.long; done = λ j m. e j m (made-at r j m) }) (omega arith)
+
+-- of the rows' rivals
+module _ {F : Type 0} (g : Mut F (ℕ × Unit {0}) ℕ) (f : F) (key : Rival → ℕ) (ws : List (List ℕ)) (n : length ws ≡ 8) where
+  abbrev KeyOf : ℕ → ℕ → Type 0
+  KeyOf i y = y ≡ key (rival_in (get_or ws i []))
+
+  pub rows-made : ((i y : ℕ) (q : F) → Called g f (i, tt) y q → (q ≡ f) × KeyOf i y) → {ys : List ℕ}
+      → IsFromFnResult g f ys 8 → ys ≡ map key (field_in ws)
+  rows-made h r =
+      made-whole g f KeyOf h r (length-map (field_in ws) key ∙ field-long ws ∙ n)
+      (λ j o k.
+      k
+      ∙ ap key (sym (at-is ws j (omega (arith, n))))
+      ∙ sym (map_at key no_rival (field_in ws) j (omega (arith, n, field-long ws))))
+
+  -- and numbers of 64 bits
+  pub words-made : ((i y : ℕ) (q : F) → Called g f (i, tt) y q → (q ≡ f) × KeyOf i y × (y ≤ off_key)) → {ys : List ℕ}
+      → IsFromFnResult g f ys 8 → (ys ≡ map key (field_in ws)) × (are_words ys ≡ true)
+  words-made h {ys} r =
+      let m : length ys ≡ 8 = r.long in (
+        rows-made (λ i y q k. let p = h i y q k in (p.0, p.1)) r,
+        every_of 0 (λ (k : ℕ). leb k off_key) ys
+            (λ j o.
+            le-leb (get_or ys j 0) off_key
+            (made-at g f (λ i y. y ≤ off_key) (λ i y q k. let p = h i y q k in (p.0, p.2)) r j (omega (arith, m)))),
+      )
 
 -- of keys that are left
-module _ {A : Type 0} (p : A → Bool) (d : A) (l : List A) (ks : List ℕ) (n : length l ≡ 8) (m : length ks ≡ 8) where
-  pub left-start : {out : List ℕ} → length out ≡ 8 → Filling (left_keys p l ks) out 0
-  left-start h = filling-start (left-long p l ks (n ∙ sym m) ∙ n) h
+module _ {F A : Type 0} (g : Mut F (ℕ × Unit {0}) ℕ) (f : F) (p : A → Bool) (d : A) (l : List A) (ks : List ℕ)
+    (n : length l ≡ 8) (m : length ks ≡ 8)
+    (h : (i y : ℕ) (q : F) → Called g f (i, tt) y q → (q ≡ f) × (y ≡ key_if (p (get_or l i d)) (get_or ks i 0))) where
+  pub left-made : {ys : List ℕ} → IsFromFnResult g f ys 8 → ys ≡ left_keys p l ks
+  left-made r =
+      made-whole g f (λ i y. y ≡ key_if (p (get_or l i d)) (get_or ks i 0)) h r (left-long p l ks (n ∙ sym m) ∙ n)
+      (λ j o k. k ∙ sym (left_at p d l ks j (omega (arith, n)) (omega (arith, m))))
 
-  pub left-next : {out : List ℕ} {i v : ℕ} → Filling (left_keys p l ks) out i → i < 8
-      → v ≡ key_if (p (get_or l i d)) (get_or ks i 0) → Filling (left_keys p l ks) (set out i v) (i + 1)
-  left-next {out} {i} s h e = filling-next s h (e ∙ sym (left_at p d l ks i (omega (arith, n)) (omega (arith, m))))
+-- of the preferred
+module _ {F : Type 0} (g : Mut F (ℕ × Unit {0}) ℕ) (f : F) (p : Rival → Bool) (ws : List (List ℕ)) (ks : List ℕ)
+    (n : length ws ≡ 8) (m : length ks ≡ 8)
+    (h : (i y : ℕ) (q : F) → Called g f (i, tt) y q → (q ≡ f) × (y ≡ key_if (p (rival_in (get_or ws i []))) (get_or ks i 0))) where
+  pub preferred-made : {ys : List ℕ} → IsFromFnResult g f ys 8 → ys ≡ left_keys p (field_in ws) ks
+  preferred-made r =
+      let v : length (field_in ws) ≡ 8 = field-long ws ∙ n in
+      made-whole g f (λ i y. y ≡ key_if (p (rival_in (get_or ws i []))) (get_or ks i 0)) h r
+      (left-long p (field_in ws) ks (v ∙ sym m) ∙ v)
+      (λ j o k.
+      k
+      ∙ ap (λ (x : Rival). key_if (p x) (get_or ks j 0)) (sym (at-is ws j (omega (arith, n))))
+      ∙ sym (left_at p no_rival (field_in ws) ks j (omega (arith, v)) (omega (arith, m))))
 
--- the preferred
-pub preferred-next : (p : Rival → Bool) (ws : List (List ℕ)) (ks : List ℕ) → length ws ≡ 8 → length ks ≡ 8
-    → {out : List ℕ} {i v : ℕ} → Filling (left_keys p (field_in ws) ks) out i → i < 8
-    → v ≡ key_if (p (rival_in (get_or ws i []))) (get_or ks i 0) → Filling (left_keys p (field_in ws) ks) (set out i v) (i + 1)
-preferred-next p ws ks n m {out} {i} s h e =
-    left-next p no_rival (field_in ws) ks (field-long ws ∙ n) m s h
-    (e ∙ ap (λ (r : Rival). key_if (p r) (get_or ks i 0)) (sym (at-is ws i (omega (arith, n)))))
-
--- the near of a speed
-module _ (ks speeds : List ℕ) (limit speed : ℕ) (n : length ks ≡ 8) (m : length speeds ≡ 8) where
+-- of the near of a speed
+module _ {F : Type 0} (g : Mut F (ℕ × Unit {0}) ℕ) (f : F) (ks speeds : List ℕ) (limit speed : ℕ) (n : length ks ≡ 8)
+    (m : length speeds ≡ 8) where
   abbrev near : List ℕ
   near = left_keys (is_near_key limit) ks ks
 
   near-long : length near ≡ 8
   near-long = left-long (is_near_key limit) ks ks refl ∙ n
 
-  pub class-start : {out : List ℕ} → length out ≡ 8 → Filling (left_keys (is_speed speed) speeds near) out 0
-  class-start h = left-start (is_speed speed) 0 speeds near m near-long h
+  both-left : (a b : Bool) (k : ℕ) → cond (a && b) k off_key ≡ key_if b (key_if a k)
+  both-left true true k = refl
+  both-left true false k = refl
+  both-left false true k = refl
+  both-left false false k = refl
 
-  pub class-next : {out : List ℕ} {i v : ℕ} → Filling (left_keys (is_speed speed) speeds near) out i → i < 8
-      → v ≡ cond (leb (get_or ks i 0) limit && eqb (get_or speeds i 0) speed) (get_or ks i 0) off_key
-      → Filling (left_keys (is_speed speed) speeds near) (set out i v) (i + 1)
-  class-next {out} {i} s h e =
-      left-next (is_speed speed) 0 speeds near m near-long s h
-      (e
-      ∙ joined (leb (get_or ks i 0) limit) (eqb (get_or speeds i 0) speed) (get_or ks i 0)
-      ∙ ap (key_if (eqb (get_or speeds i 0) speed))
-      (sym (left_at (is_near_key limit) 0 ks ks i (omega (arith, n)) (omega (arith, n)))))
-    where
-      joined : (a b : Bool) (k : ℕ) → cond (a && b) k off_key ≡ key_if b (key_if a k)
-      joined true true k = refl
-      joined true false k = refl
-      joined false true k = refl
-      joined false false k = refl
+  abbrev NearOf : ℕ → ℕ → Type 0
+  NearOf i y = y ≡ cond (leb (get_or ks i 0) limit && eqb (get_or speeds i 0) speed) (get_or ks i 0) off_key
+
+  pub class-made : ((i y : ℕ) (q : F) → Called g f (i, tt) y q → (q ≡ f) × NearOf i y) → {ys : List ℕ}
+      → IsFromFnResult g f ys 8 → ys ≡ left_keys (is_speed speed) speeds near
+  class-made h r =
+      made-whole g f NearOf h r (left-long (is_speed speed) speeds near (m ∙ sym near-long) ∙ m)
+      (λ j o k.
+      k
+      ∙ both-left (leb (get_or ks j 0) limit) (eqb (get_or speeds j 0) speed) (get_or ks j 0)
+      ∙ ap (key_if (eqb (get_or speeds j 0) speed))
+      (sym (left_at (is_near_key limit) 0 ks ks j (omega (arith, n)) (omega (arith, n))))
+      ∙ sym (left_at (is_speed speed) 0 speeds near j (omega (arith, m)) (omega (arith, near-long))))
 
 -- ---- the least
 
@@ -158,7 +186,7 @@ pub record Least (ks : List ℕ) (r : ℕ) : Type 0 where
 
 -- the head of what a test keeps
 head_at : (q : ℕ → Bool) (l : List ℕ) (r : ℕ) → r < length l → q (get_or l r 0) ≡ true
-    → ((j : ℕ) → j < r → q (get_or l j 0) ≡ false) → head_of off_key (λ k. k) (keep q l) ≡ get_or l r 0
+    → ((j : ℕ) → j < r → q (get_or l j 0) ≡ false) → head_of off_key (λ k. k) (filter q l) ≡ get_or l r 0
 head_at q [] r h e f = absurd (omega arith)
 head_at q (x ∷ l) zero h e f = rw e
 head_at q (x ∷ l) (suc r) h e f =
@@ -194,20 +222,20 @@ module _ {ks : List ℕ} {r : ℕ} (s : Least ks r) where
 pub record Leading (ks : List ℕ) (k at i : ℕ) : Type 0 where
   pub long : length ks ≡ 8
   pub upto : i ≤ 8
-  pub here : at < i
+  pub here : at < 8
   pub is : k ≡ get_or ks at 0
   pub low : (j : ℕ) → j < i → k ≤ get_or ks j 0
   pub first : (j : ℕ) → j < at → k < get_or ks j 0
 
 module _ {ks : List ℕ} where
-  pub leading-start : {k : ℕ} → length ks ≡ 8 → k ≡ get_or ks 0 0 → Leading ks k 0 1
+  pub leading-start : {k : ℕ} → length ks ≡ 8 → k ≡ get_or ks 0 0 → Leading ks k 0 0
   leading-start {k} h e =
       record {
         long = h;
         upto = omega arith;
         here = omega arith;
         is = e;
-        low = λ j m. let z : j ≡ 0 = omega arith in rw z (omega (arith, e));
+        low = λ j m. absurd (omega arith);
         first = λ j m. absurd (omega arith);
       }
 
@@ -240,7 +268,7 @@ module _ {ks : List ℕ} where
       (record {
         long = s.long;
         upto = omega arith;
-        here = omega (arith, s.here);
+        here = s.here;
         is = s.is;
         low = λ j m. on-order j i (λ o. s.low j o) (λ o. let z : j ≡ i = omega arith in rw z l);
         first = s.first;
@@ -250,7 +278,7 @@ module _ {ks : List ℕ} where
   leading_end {k} {at} {i} s h =
       least-is
       (record {
-        inside = omega (arith, s.here, s.upto, s.long);
+        inside = omega (arith, s.here, s.long);
         low = λ j m. omega (arith, s.is, s.low j (omega (arith, s.long)));
         first = λ j m. omega (arith, s.is, s.first j m);
       })
@@ -309,25 +337,3 @@ least-found ks h = from (least-some ks h)
     from (r, s) =
         let e : ◌≡◌ {A = Lead} (least_lead ks) (record { key = get_or ks r 0; at = r }) = sym (least-is s refl) in
         rw e (record { place = s; key = refl })
-
--- ---- keys of 64 bits
-
-pub record Worded (out : List ℕ) (i : ℕ) : Type 0 where
-  pub small : (j : ℕ) → j < i → get_or out j 0 ≤ off_key
-
-pub worded-start : {out : List ℕ} → Worded out 0
-worded-start = record { small = λ j m. absurd (omega arith) }
-
-pub worded-next : {out : List ℕ} {i v : ℕ} → Worded out i → i < length out → v ≤ off_key → Worded (set out i v) (i + 1)
-worded-next {out} {i} {v} s h e =
-    record {
-      small =
-          λ j m.
-          on-order j i
-          (λ o. rw (get_or-set_other out i j v 0 (omega arith)) (s.small j o))
-          (λ o. let z : j ≡ i = omega arith in rw (z, get_or-set_same out i v 0 h) e);
-    }
-
-pub worded-end : {out : List ℕ} {i : ℕ} → Worded out i → length out ≤ i → are_words out ≡ true
-worded-end {out} {i} s h =
-    every_of 0 (λ (k : ℕ). leb k off_key) out (λ j m. le-leb (get_or out j 0) off_key (s.small j (omega arith)))

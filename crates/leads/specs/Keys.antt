@@ -2,7 +2,8 @@
 -- the least key, of equals the first, is the answer; who is not asked has the greatest number of 64 bits for key. That
 -- these answers make the choice of Choice.antt (crate select) is proved in crate choices.
 use Rattle.std.specs.Prelude.{ℕ, ◌+◌, ◌-◌, ◌*◌, Bool, false, not, cond, ◌&&◌, ◌||◌, List, [], ◌∷◌, ltb, leb, eqb}
-use Rattle.base.specs.Seq.{flag_of, position, every}
+use Rattle.std.specs.List.{list_all}
+use Rattle.base.specs.Seq.{flag_of, position}
 use Rattle.base.specs.First.{first_of}
 use Rattle.total.specs.Places.{key_of}
 use Rattle.select.specs.Media.{speed_of}
@@ -53,7 +54,7 @@ speed_key r = speed_of r.medium
 
 -- keys of 64 bits
 abbrev pub are_words : List ℕ → Bool
-are_words ks = every (λ k. leb k off_key) ks
+are_words ks = list_all (λ k. leb k off_key) ks
 
 -- ---- keys that are left
 

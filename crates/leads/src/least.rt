@@ -13,26 +13,17 @@ pub struct Lead {
     pub at: usize,
 }
 
-// One of two places.
-pub fn pick_place(t: bool, a: usize, b: usize) -> usize
-    ensures { result ≡ cond t a b }
-{
-    if t { a } else { b }
-}
-
 // The least key, and the first place that has it.
+#[tactic(auto, using(crate::proofs::LoopLaws::leading_end))]
 pub fn least(keys: [u64; PATH_MAX_PER_PEER]) -> Lead
     ensures { result ≡ least_lead keys }
 {
     let mut key = keys[0];
     let mut at: usize = 0;
-    let mut i: usize = 1;
-    while i < PATH_MAX_PER_PEER {
-        let k = keys[i];
+    for (i, &k) in keys.iter().enumerate() {
         let less = k < key;
-        at = pick_place(less, i, at);
+        at = pick(less, i, at);
         key = pick(less, k, key);
-        i += 1;
     }
-    Lead { key: key, at: at }
+    Lead { key, at }
 }

@@ -11,29 +11,23 @@ use total::{pattern_key, pick};
 pub const OFF: u64 = 0xffff_ffff_ffff_ffff;
 
 // Whether there is a rival.
+#[tactic(auto, unfolding(rivalrows::specs::Rows::rival_in))]
 pub fn held(w: &[u64; ROW]) -> bool
     ensures { result ≡ (rival_in w.now).held }
 {
     bit(w[0])
 }
 
-// A number of 64 bits.
-fn word(x: u64) -> u64
-    ensures { (result ≡ x) × (result ≤ off_key) }
-{
-    x
-}
-
 // Whether it has a round trip beyond the longest that is let through.
+#[tactic(auto, unfolding(rivalrows::specs::Rows::rival_in, crate::specs::Keys::is_beyond))]
 pub fn past(w: &[u64; ROW], longest: u64) -> bool
     ensures { result ≡ is_beyond longest (rival_in w.now) }
 {
-    let trip = word(w[5]);
-    let base = word(w[9]);
-    (bit(w[4]) & (longest < trip)) | (bit(w[8]) & (longest < base))
+    (bit(w[4]) & (longest < w[5])) | (bit(w[8]) & (longest < w[9]))
 }
 
 // Whether it has its place for index, if there is one.
+#[tactic(auto, unfolding(rivalrows::specs::Rows::rival_in))]
 pub fn at_place(w: &[u64; ROW], place: u64) -> bool
     ensures { result ≡ at_place place (rival_in w.now) }
 {
@@ -41,6 +35,7 @@ pub fn at_place(w: &[u64; ROW], place: u64) -> bool
 }
 
 // Whether it is preferred.
+#[tactic(auto, unfolding(rivalrows::specs::Rows::rival_in))]
 pub fn preferred(w: &[u64; ROW]) -> bool
     ensures { result ≡ (rival_in w.now).preferred }
 {
@@ -48,6 +43,7 @@ pub fn preferred(w: &[u64; ROW]) -> bool
 }
 
 // The rank of its medium by speed, by the medium's number.
+#[tactic(auto, unfolding(rivalrows::specs::Rows::rival_in, crate::specs::Keys::speed_key))]
 pub fn speed(w: &[u64; ROW]) -> u64
     ensures { result ≡ speed_key (rival_in w.now) }
 {
@@ -56,6 +52,7 @@ pub fn speed(w: &[u64; ROW]) -> u64
 }
 
 // The key of its rank: pinned before tier before fitting, the highest first.
+#[tactic(auto, unfolding(rivalrows::specs::Rows::rival_in, crate::specs::Keys::rank_key))]
 pub fn rank_key(w: &[u64; ROW]) -> u64
     ensures { result ≡ rank_key (rival_in w.now) }
 {
@@ -70,6 +67,7 @@ pub fn rank_key(w: &[u64; ROW]) -> u64
 }
 
 // The key of its score, if it has the rank and a score.
+#[tactic(auto, unfolding(rivalrows::specs::Rows::rival_in, crate::specs::Keys::score_key))]
 pub fn score_key(w: &[u64; ROW], top: u64) -> u64
     ensures { result ≡ score_key top (rival_in w.now) }
 {
@@ -79,6 +77,7 @@ pub fn score_key(w: &[u64; ROW], top: u64) -> u64
 }
 
 // 0 where its round trip is known and 1 where not, if it has the rank.
+#[tactic(auto, unfolding(rivalrows::specs::Rows::rival_in, crate::specs::Keys::wait_key))]
 pub fn wait_key(w: &[u64; ROW], top: u64) -> u64
     ensures { result ≡ wait_key top (rival_in w.now) }
 {
@@ -88,10 +87,11 @@ pub fn wait_key(w: &[u64; ROW], top: u64) -> u64
 }
 
 // Its round trip, if it has the rank and a known one; a number of 64 bits.
+#[tactic(auto, unfolding(rivalrows::specs::Rows::rival_in, crate::specs::Keys::trip_key))]
 pub fn trip_key(w: &[u64; ROW], top: u64) -> u64
     ensures { (result ≡ trip_key top (rival_in w.now)) × (result ≤ off_key) }
 {
     let asked = (rank_key(w) == top) & bit(w[4]);
-    let trip = word(w[5]);
+    let trip = w[5];
     pick(asked, trip, OFF)
 }

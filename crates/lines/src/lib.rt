@@ -9,10 +9,11 @@ ghost use Rattle.lines.specs.Text.{decimal, cell_of, line_of, written};
 fn places(x: u64) -> usize
     ensures { (result ≡ length (decimal x)) × (result ≤ 20) }
 {
+    // Not counted by an index: the tenths are taken until none is left.
     let mut k: usize = 1;
     let mut rest = x / 10;
     while 0 < rest {
-        rest = rest / 10;
+        rest /= 10;
         k += 1;
     }
     k
@@ -29,12 +30,10 @@ fn put_number(out: &mut [u8], x: u64, after: u8) -> usize
     if out.len() <= k {
         return 0;
     }
-    let mut i = k;
     let mut rest = x;
-    while 0 < i {
-        i -= 1;
+    for i in (0..k).rev() {
         out[i] = (48 + rest % 10) as u8;
-        rest = rest / 10;
+        rest /= 10;
     }
     out[k] = after;
     k + 1

@@ -1,9 +1,6 @@
 -- A path that has done nothing yet, as an open makes it, and the room in its ring (the Rust's `room`).
-use Rattle.std.specs.Prelude.{ℕ, Bool, false, ◌&&◌, replicate, nat_lt}
+use Rattle.std.specs.Prelude.{ℕ, Bool, false, ◌&&◌, replicate, nat_lt, None}
 use Rattle.std.specs.Float.Ieee
-use Rattle.base.specs.declared.types.MaybeId.TheVariants as id
-use Rattle.base.specs.declared.types.MaybeTime.TheVariants as time
-use Rattle.base.specs.declared.types.MaybeLen.TheVariants as len
 use Rattle.ring.specs.Ring.{max_waiting, max_late, no_sent, outstanding_of}
 use Rattle.rtt.specs.Rtts.{new_rtts}
 use Rattle.seek.specs.Search.{new_seek}
@@ -18,10 +15,10 @@ new_liveness =
       ring = replicate max_waiting no_sent;
       late = replicate max_late no_sent;
       silence = new_silence;
-      ids = record { next_id = id.None; answered = id.None; epoch = id.None; since = id.None };
-      sizes = record { seek = new_seek; proven = len.None };
-      ladder = record { last = len.None; fallen = false };
-      traffic = record { heard_at = time.None; data_at = time.None; frames = 0; bytes = 0 };
+      ids = record { next_id = None; answered = None; epoch = None; since = None };
+      sizes = record { seek = new_seek; proven = None };
+      ladder = record { last = None; fallen = false };
+      traffic = record { heard_at = None; data_at = None; frames = 0; bytes = 0 };
       etx = Ieee.of_bits Ieee.binary64 0x3ff0_0000_0000_0000;
       misses = 0;
     }

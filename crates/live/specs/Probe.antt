@@ -1,9 +1,8 @@
 -- Probes sent, answered and lapsed (document 01, "Identifiers" and "Ring (8) and late list (4)"), with the refusals 5,
 -- 6, 8 and 9.
-use Rattle.std.specs.Prelude.{ℕ, Bool, true, cond, ◌||◌, List, replicate, nat_le, nat_lt, slice_index_or, slice_set}
+use Rattle.std.specs.Prelude.{ℕ, Bool, true, cond, ◌||◌, List, replicate, nat_le, nat_lt, slice_index_or, slice_set, Some, Ok}
 use Rattle.base.specs.Limits.{is_overlong, is_endless}
 use Rattle.base.specs.declared.types.Refusal.TheVariants.{Length, Duration, Full, Unknown}
-use Rattle.base.specs.declared.types.MaybeLen.TheVariants as len
 use Rattle.ring.specs.Ids.{taken_of, next_ids, answered_ids, thawed_ids, is_counted, missed_by}
 use Rattle.ring.specs.Ring.{max_waiting, max_late, first_free, drop_since, no_sent, found, taken_out, remembered, swept}
 use Rattle.ring.specs.Lapse.{is_passed, defer_of, scan_of, is_padded}
@@ -40,7 +39,7 @@ new_sent id at due n = record { at = at; due = due; probe_id = id; len = n; used
 
 -- the ladder after a send: the last size is the probe's
 abbrev pub sent_ladder : Ladder → ℕ → Ladder
-sent_ladder l n = record { last = len.Some n; fallen = l.fallen }
+sent_ladder l n = record { last = Some n; fallen = l.fallen }
 
 -- the probe s stands in the first free place under the next identifier; `since` is dropped if every waiting probe
 -- counts; its size is the last one; `quiet` keeps the first send's instant
@@ -54,7 +53,7 @@ sent_path p s =
 
 -- and its identifier is the answer
 abbrev pub sent_with : Liveness → Sent → Outcome
-sent_with p s = record { path = sent_path p s; answer = answer.Id s.probe_id }
+sent_with p s = record { path = sent_path p s; answer = Ok (answer.Id s.probe_id) }
 
 -- 5 for a length above 65,535; `send` takes the first free place; with eight waiting it takes no identifier: 8
 unfoldable pub send_of : Liveness → ℕ → ℕ → ℕ → ℕ → Outcome
@@ -73,13 +72,13 @@ abbrev pub answered_at : Liveness → ℕ → ℕ → Outcome
 answered_at p slot id =
     record {
       path = with_ring (with_misses (with_ids p (answered_ids p.ids id)) 0) (taken_out max_waiting p.ring slot);
-      answer = answer.InTime (slice_index_or p.ring slot no_sent);
+      answer = Ok (answer.InTime (slice_index_or p.ring slot no_sent));
     }
 
 -- a late answer takes the probe out of the late list, and changes nothing else
 abbrev pub late_at : Liveness → ℕ → Outcome
 late_at p place =
-    record { path = with_late p (slice_set p.late place no_sent); answer = answer.Late (slice_index_or p.late place no_sent) }
+    record { path = with_late p (slice_set p.late place no_sent); answer = Ok (answer.Late (slice_index_or p.late place no_sent)) }
 
 -- `answer` looks in the ring, then the late list; 9 for an identifier that is in neither
 unfoldable pub answer_of : Liveness → ℕ → Outcome
@@ -111,13 +110,13 @@ lapsed_path p ring slot s =
 -- and whether it was a miss is the answer
 abbrev pub lapsed_at : Liveness → List Sent → ℕ → Sent → Outcome
 lapsed_at p ring slot s =
-    record { path = lapsed_path p ring slot s; answer = answer.Lapsed (is_counted p.ids s.probe_id) }
+    record { path = lapsed_path p ring slot s; answer = Ok (answer.Lapsed (is_counted p.ids s.probe_id)) }
 
 -- where none lapses, what was deferred stays deferred
 abbrev pub expired_by : Liveness → Scanned → Outcome
 expired_by p c =
     cond (nat_le max_waiting c.slot)
-    (record { path = with_ring p c.ring; answer = answer.Idle })
+    (record { path = with_ring p c.ring; answer = (Ok answer.Idle) })
     (lapsed_at p c.ring c.slot (slice_index_or c.ring c.slot no_sent))
 
 -- 6 for a cap of 2 ^ 62 or more; `expire` takes the first probe whose due has passed and that is not deferred

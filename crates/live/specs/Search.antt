@@ -1,11 +1,9 @@
 -- Sizes (document 01, "Size search", `size` and `fresh` of "Ring (8) and late list (4)"), with the refusals 5, 6, 8, 9
 -- and 10.
-use Rattle.std.specs.Prelude.{ℕ, false, cond}
+use Rattle.std.specs.Prelude.{ℕ, false, cond, Option, None, Some, Result, Ok, Err}
 use Rattle.base.specs.Limits.{is_overlong, is_undersize, is_endless}
 use Rattle.base.specs.declared.types.Refusal.{Refusal}
 use Rattle.base.specs.declared.types.Refusal.TheVariants.{Length, Duration, Unknown, NoSize}
-use Rattle.base.specs.declared.types.MaybeLen.{MaybeLen}
-use Rattle.base.specs.declared.types.MaybeLen.TheVariants as len
 use Rattle.ring.specs.Ids.{fresh_ids}
 use Rattle.seek.specs.Ladder as ladder
 use Rattle.seek.specs.Search as search
@@ -19,7 +17,7 @@ use Rattle.live.specs.Probe.{take_id_of, send_of}
 use Rattle.live.specs.declared.types.Liveness.{Liveness}
 use Rattle.live.specs.declared.types.Outcome.{Outcome}
 use Rattle.live.specs.declared.types.Answer.{Answer}
-use Rattle.live.specs.declared.types.Answer.TheVariants.{Id, Len, Flag, Refused}
+use Rattle.live.specs.declared.types.Answer.TheVariants.{Id, Len, Flag}
 
 -- ---- fresh and size
 
@@ -29,20 +27,20 @@ abbrev pub fresh_of : Liveness → Liveness
 fresh_of p =
     with_ladder
     (with_sizes (with_misses (with_ids p (fresh_ids p.ids)) 0) (search.fresh_sizes p.sizes))
-    (record { last = len.None; fallen = false })
+    (record { last = None; fallen = false })
 
 -- 5 for a full size above 65,535 or below 27; else the ladder's size
-unfoldable pub size_of : Liveness → ℕ → Answer
+unfoldable pub size_of : Liveness → ℕ → Result Answer Refusal
 size_of p full =
     cond (is_overlong full)
-    (Refused Length)
-    (cond (is_undersize full) (Refused Length) (Len (ladder.ladder_size p.ladder full)))
+    (Err Length)
+    (cond (is_undersize full) (Err Length) (Ok (Len (ladder.ladder_size p.ladder full))))
 
 -- ---- prove
 
 -- the path with the sizes that the rule gives, and its answer
 abbrev pub proved_by : Liveness → Proving → Outcome
-proved_by p d = record { path = with_sizes p d.sizes; answer = Flag d.changed }
+proved_by p d = record { path = with_sizes p d.sizes; answer = Ok (Flag d.changed) }
 
 -- 5 for a size above 65,535 or below 27; else the size is proven
 unfoldable pub prove_of : Liveness → ℕ → Outcome
@@ -54,22 +52,22 @@ prove_of p n =
 -- ---- the proposal
 
 -- a length, or the refusal where there is none
-abbrev pub len_or : Refusal → MaybeLen → Answer
-len_or why len.None = Refused why
-len_or why (len.Some n) = Len n
+abbrev pub len_or : Refusal → Option ℕ → Result Answer Refusal
+len_or why None = Err why
+len_or why (Some n) = Ok (Len n)
 
 -- 5 for a full size above 65,535 or below 27; 10 where no size is proposed
-unfoldable pub seek_size_of : Liveness → ℕ → ℕ → Answer
+unfoldable pub seek_size_of : Liveness → ℕ → ℕ → Result Answer Refusal
 seek_size_of p full now =
     cond (is_overlong full)
-    (Refused Length)
-    (cond (is_undersize full) (Refused Length) (len_or NoSize (search.search_size p.sizes full now)))
+    (Err Length)
+    (cond (is_undersize full) (Err Length) (len_or NoSize (search.search_size p.sizes full now)))
 
 -- ---- a search probe sent
 
 -- the probe is out under the identifier taken, on the path that has taken it
 abbrev pub seek_sent_at : Liveness → ℕ → ℕ → ℕ → Outcome
-seek_sent_at p at n id = record { path = with_sizes p (search.sent_search p.sizes at n id); answer = Id id }
+seek_sent_at p at n id = record { path = with_sizes p (search.sent_search p.sizes at n id); answer = Ok (Id id) }
 
 -- 5 for a length above 65,535; else it takes the next identifier
 unfoldable pub seek_send_of : Liveness → ℕ → ℕ → ℕ → Outcome
@@ -93,9 +91,9 @@ seek_ring_of p at due gap n draw =
 -- ---- a search probe settled
 
 -- 9 where no search probe with the identifier is out
-abbrev pub settled_by : Liveness → MaybeLen → Settled → Outcome
-settled_by p len.None d = refused p Unknown
-settled_by p (len.Some n) d = record { path = with_sizes p d.sizes; answer = Len n }
+abbrev pub settled_by : Liveness → Option ℕ → Settled → Outcome
+settled_by p None d = refused p Unknown
+settled_by p (Some n) d = record { path = with_sizes p d.sizes; answer = Ok (Len n) }
 
 -- 6 for a gap of 2 ^ 62 or more; else the probe is settled
 unfoldable pub seek_answer_of : Liveness → ℕ → ℕ → Outcome
@@ -106,7 +104,7 @@ seek_answer_of p id gap =
 
 -- the path with the sizes that the rule gives, and its answer
 abbrev pub raised_by : Liveness → Proved → Outcome
-raised_by p d = record { path = with_sizes p d.sizes; answer = Flag d.raised }
+raised_by p d = record { path = with_sizes p d.sizes; answer = Ok (Flag d.raised) }
 
 -- 5 for a length above 65,535; else proven rises or the sent size is lost
 unfoldable pub seek_proved_of : Liveness → ℕ → ℕ → ℕ → Outcome
@@ -119,7 +117,7 @@ seek_proved_of p sent acked now =
 
 -- the path with the sizes that the rule gives, and its answer
 abbrev pub judged_by : Liveness → Judged → Outcome
-judged_by p d = record { path = with_sizes p d.sizes; answer = Flag d.lost }
+judged_by p d = record { path = with_sizes p d.sizes; answer = Ok (Flag d.lost) }
 
 -- 6 for a timeout or gap of 2 ^ 62 or more; else the probe is lost or waits
 unfoldable pub seek_judge_of : Liveness → ℕ → ℕ → ℕ → Outcome

@@ -1,9 +1,9 @@
 -- Round trips, ETX, frames received and the stop of a path (document 01, "RTT, ETX, score" and "Files and tail"), with
 -- the refusals 5 and 6. The counters are the Rust's: one frame and its bytes more or less, modulo 2 ^ 32.
-use Rattle.std.specs.Prelude.{ℕ, ◌+◌, ◌-◌, ◌%◌, ◌^◌, Bool, cond}
+use Rattle.base.specs.declared.types.Refusal.{Refusal}
+use Rattle.std.specs.Prelude.{ℕ, ◌+◌, ◌-◌, ◌%◌, ◌^◌, Bool, cond, Some, Result, Ok, Err}
 use Rattle.base.specs.Limits.{is_overlong, is_endless}
 use Rattle.base.specs.declared.types.Refusal.TheVariants.{Length, Duration}
-use Rattle.base.specs.declared.types.MaybeTime.TheVariants as time
 use Rattle.etx.specs.Etx.{fold_of}
 use Rattle.rtt.specs.Rtts as rtts
 use Rattle.rtt.specs.Samples.{max_rtt}
@@ -15,7 +15,7 @@ use Rattle.live.specs.declared.types.Traffic.{Traffic}
 use Rattle.live.specs.declared.types.Liveness.{Liveness}
 use Rattle.live.specs.declared.types.Outcome.{Outcome}
 use Rattle.live.specs.declared.types.Answer.{Answer}
-use Rattle.live.specs.declared.types.Answer.TheVariants.{Time, Refused}
+use Rattle.live.specs.declared.types.Answer.TheVariants.{Time}
 
 -- 6 for an RTT, window or horizon of 2 ^ 62 or more; else the rule of `sample`
 unfoldable pub sample_of : Liveness → ℕ → ℕ → ℕ → ℕ → Outcome
@@ -33,19 +33,19 @@ abbrev pub folded_of : Liveness → Bool → Liveness
 folded_of p delivered = with_etx p (fold_of p.etx delivered)
 
 -- 6 for a floor or cap of 2 ^ 62 or more; else the largest of floor, 3 × last, and the smaller of 3 × largest and cap
-unfoldable pub timeout_of : Liveness → ℕ → ℕ → Answer
+unfoldable pub timeout_of : Liveness → ℕ → ℕ → Result Answer Refusal
 timeout_of p floor cap =
     cond (is_endless floor)
-    (Refused Duration)
+    (Err Duration)
     (cond (is_endless cap)
-    (Refused Duration)
-    (Time (times.timeout_by p.rtts.rtt (max_rtt p.rtts.samples) floor cap)))
+    (Err Duration)
+    (Ok (Time (times.timeout_by p.rtts.rtt (max_rtt p.rtts.samples) floor cap))))
 
 -- `heard`: one frame more, heard now
 abbrev pub heard_traffic : Traffic → ℕ → ℕ → Traffic
 heard_traffic t n now =
     record {
-      heard_at = time.Some now;
+      heard_at = Some now;
       data_at = t.data_at;
       frames = (t.frames + 1) % 2 ^ 32;
       bytes = (t.bytes + n) % 2 ^ 32;
@@ -61,7 +61,7 @@ carried_of p now =
     with_traffic p
     (record {
       heard_at = p.traffic.heard_at;
-      data_at = time.Some now;
+      data_at = Some now;
       frames = p.traffic.frames;
       bytes = p.traffic.bytes;
     })

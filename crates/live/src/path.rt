@@ -5,11 +5,11 @@ ghost use Rattle.rtt.specs.Samples.{min_rtt, max_rtt, samples_of};
 ghost use Rattle.rtt.specs.Spans.{base_rtt};
 ghost use Rattle.live.specs.New.{new_liveness, room_of};
 
-use crate::types::*;
-use base::types::*;
-use ring::types::*;
+use crate::types::{Liveness, Traffic};
+use ring::ring::none;
+use ring::types::{Ids, LATE, RING};
 use rtt::types::Rtts;
-use seek::types::*;
+use seek::types::{Ladder, Seek, Sizes};
 use stop::types::Silence;
 
 impl Liveness {
@@ -17,44 +17,31 @@ impl Liveness {
     pub fn new() -> Self
         ensures { result ≡ new_liveness }
     {
-        let id = MaybeId::None;
-        let time = MaybeTime::None;
-        let len = MaybeLen::None;
-        let ids = Ids {
-            next_id: id,
-            answered: id,
-            epoch: id,
-            since: id,
-        };
-        let free = ring::ring::none();
-        let places = [free; RING];
-        let late = [free; LATE];
-        let rtts = Rtts::new();
-        let silence = Silence::new();
-        let seek = Seek::new();
-        let sizes = Sizes {
-            seek: seek,
-            proven: len,
-        };
-        let ladder = Ladder {
-            last: len,
-            fallen: false,
-        };
-        let traffic = Traffic {
-            heard_at: time,
-            data_at: time,
-            frames: 0,
-            bytes: 0,
-        };
         Liveness {
-            rtts: rtts,
-            ring: places,
-            late: late,
-            silence: silence,
-            ids: ids,
-            sizes: sizes,
-            ladder: ladder,
-            traffic: traffic,
+            rtts: Rtts::new(),
+            ring: [none(); RING],
+            late: [none(); LATE],
+            silence: Silence::new(),
+            ids: Ids {
+                next_id: None,
+                answered: None,
+                epoch: None,
+                since: None,
+            },
+            sizes: Sizes {
+                seek: Seek::new(),
+                proven: None,
+            },
+            ladder: Ladder {
+                last: None,
+                fallen: false,
+            },
+            traffic: Traffic {
+                heard_at: None,
+                data_at: None,
+                frames: 0,
+                bytes: 0,
+            },
             etx: 1.0,
             misses: 0,
         }
@@ -64,25 +51,22 @@ impl Liveness {
     pub fn outstanding(self) -> usize
         ensures { result ≡ outstanding_of self.ring }
     {
-        let ring = self.ring;
-        ring::ring::outstanding(ring)
+        ring::ring::outstanding(self.ring)
     }
 
     // Whether another probe may go out with at most `cap` outstanding.
     pub fn room(self, cap: u64) -> bool
         ensures { result ≡ room_of self cap }
     {
-        let ring = self.ring;
-        let n = ring::ring::outstanding(ring) as u64;
-        (n < cap) & (n < RING as u64)
+        let n = self.outstanding();
+        (n as u64) < cap && n < RING
     }
 
     // The earliest instant at which a waiting probe is due.
-    pub fn earliest_due(self) -> MaybeTime
+    pub fn earliest_due(self) -> Option<u64>
         ensures { result ≡ earliest_due self.ring }
     {
-        let ring = self.ring;
-        ring::ring::earliest_due(ring)
+        ring::ring::earliest_due(self.ring)
     }
 
     // Consecutive unanswered probes.
@@ -93,48 +77,38 @@ impl Liveness {
     }
 
     // The latest round trip.
-    pub fn rtt(self) -> MaybeTime
+    pub fn rtt(self) -> Option<u64>
         ensures { result ≡ self.rtts.rtt }
     {
-        let rtts = self.rtts;
-        let rtt = rtts.rtt;
-        rtt
+        self.rtts.rtt
     }
 
     // The least round trip among the window's samples.
-    pub fn min_rtt(self) -> MaybeTime
+    pub fn min_rtt(self) -> Option<u64>
         ensures { result ≡ min_rtt self.rtts.samples }
     {
-        let rtts = self.rtts;
-        let samples = rtts.samples;
-        samples::min_rtt(samples)
+        samples::min_rtt(self.rtts.samples)
     }
 
     // The largest round trip among the window's samples.
-    pub fn max_rtt(self) -> MaybeTime
+    pub fn max_rtt(self) -> Option<u64>
         ensures { result ≡ max_rtt self.rtts.samples }
     {
-        let rtts = self.rtts;
-        let samples = rtts.samples;
-        samples::max_rtt(samples)
+        samples::max_rtt(self.rtts.samples)
     }
 
     // The least round trip over the horizon.
-    pub fn base_rtt(self) -> MaybeTime
+    pub fn base_rtt(self) -> Option<u64>
         ensures { result ≡ base_rtt self.rtts.spans }
     {
-        let rtts = self.rtts;
-        let spans = rtts.spans;
-        spans::base_rtt(spans)
+        spans::base_rtt(self.rtts.spans)
     }
 
     // Round-trip samples in the window.
     pub fn samples(self) -> usize
         ensures { result ≡ samples_of self.rtts.samples }
     {
-        let rtts = self.rtts;
-        let samples = rtts.samples;
-        samples::samples(samples)
+        samples::samples(self.rtts.samples)
     }
 
     // The smoothed expected transmission count.
@@ -145,12 +119,10 @@ impl Liveness {
     }
 
     // The proven size.
-    pub fn mtu(self) -> MaybeLen
+    pub fn mtu(self) -> Option<u16>
         ensures { result ≡ self.sizes.proven }
     {
-        let sizes = self.sizes;
-        let proven = sizes.proven;
-        proven
+        self.sizes.proven
     }
 
     // Authentic frames attributed to the path, modulo 2^32.
@@ -168,29 +140,23 @@ impl Liveness {
     }
 
     // When the latest authentic frame arrived.
-    pub fn heard_at(self) -> MaybeTime
+    pub fn heard_at(self) -> Option<u64>
         ensures { result ≡ self.traffic.heard_at }
     {
-        let traffic = self.traffic;
-        let at = traffic.heard_at;
-        at
+        self.traffic.heard_at
     }
 
     // When the latest session datagram arrived.
-    pub fn data_at(self) -> MaybeTime
+    pub fn data_at(self) -> Option<u64>
         ensures { result ≡ self.traffic.data_at }
     {
-        let traffic = self.traffic;
-        let at = traffic.data_at;
-        at
+        self.traffic.data_at
     }
 
     // The send instant of the first probe that went to the ring: the silence clock.
-    pub fn quiet(self) -> MaybeTime
+    pub fn quiet(self) -> Option<u64>
         ensures { result ≡ self.silence.quiet }
     {
-        let silence = self.silence;
-        let quiet = silence.quiet;
-        quiet
+        self.silence.quiet
     }
 }

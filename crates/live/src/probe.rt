@@ -1,147 +1,122 @@
-// Probes sent, answered and lapsed.
+// Probes sent, answered and lapsed. A length is `as u16` after its test of `MAX_LEN`, document 01's limit.
 ghost use Rattle.std.specs.Prelude.{◌≡◌};
 ghost use Rattle.live.specs.Probe.{take_id_of, send_of, answer_of, expire_of, lapse_of, clear_of, thaw_of};
 
 use crate::answers::refused;
-use crate::types::*;
+use crate::types::{Answer, Liveness, Outcome, Taking};
 use base::limits::{DURATION_END, MAX_LEN};
-use base::types::*;
-use ring::types::*;
-use seek::types::*;
+use base::types::Refusal;
+use ring::ring::{find, first_free, none, remember, sweep, take_out};
+use ring::types::{RING, Scanned, Sent};
+use seek::types::Ladder;
 
 impl Liveness {
     // Takes the path's next identifier; the draw is its first.
     pub fn take_id(self, draw: u32) -> Taking
         ensures { result ≡ take_id_of self draw }
     {
-        let ids = self.ids;
-        let next = ids.next_id;
-        let id = ids::taken(next, draw);
-        let after = ids::next_ids(ids, id);
-        let mut out = self;
-        out.ids = after;
-        Taking { path: out, id: id }
+        let id = ids::taken(self.ids.next_id, draw);
+        Taking {
+            path: Liveness {
+                ids: ids::next_ids(self.ids, id),
+                ..self
+            },
+            id,
+        }
     }
 
     // A probe of len bytes sent at `at`, due at `due`: into the first free place of the ring.
+    #[tactic(auto, using(ring::proofs::PlaceLaws::place_none, ring::proofs::PlaceLaws::place_some), unfolding(crate::specs::Probe::send_of))]
     pub fn send(self, at: u64, due: u64, len: u32, draw: u32) -> Outcome
         ensures { result ≡ send_of self at due len draw }
     {
         if MAX_LEN < len {
-            let why = Refusal::Length;
-            return refused(self, why);
+            return refused(self, Refusal::Length);
         }
-        let ring = self.ring;
-        let slot = ring::ring::first_free(ring);
-        if RING <= slot {
-            let why = Refusal::Full;
-            return refused(self, why);
-        }
-        let short = len as u16;
-        let kept = ids::drop_since(self.ids, ring);
-        let next = kept.next_id;
-        let id = ids::taken(next, draw);
-        let ids = ids::next_ids(kept, id);
-        let silence = stop::silence::quiet_from(self.silence, at);
-        let last = MaybeLen::Some(short);
-        let ladder = Ladder {
-            last: last,
-            fallen: self.ladder.fallen,
+        let Some(slot) = first_free(&self.ring) else {
+            return refused(self, Refusal::Full);
         };
-        let mut out = self;
-        out.ring[slot] = Sent {
-            at: at,
-            due: due,
+        let len = len as u16;
+        let kept = ids::drop_since(self.ids, &self.ring);
+        let id = ids::taken(kept.next_id, draw);
+        let mut path = self;
+        path.ring[slot] = Sent {
+            at,
+            due,
             probe_id: id,
-            len: short,
+            len,
             used: true,
         };
-        out.ids = ids;
-        out.silence = silence;
-        out.ladder = ladder;
-        let answer = Answer::Id(id);
+        path.ids = ids::next_ids(kept, id);
+        path.silence = stop::silence::quiet_from(self.silence, at);
+        path.ladder.last = Some(len);
         Outcome {
-            path: out,
-            answer: answer,
+            path,
+            answer: Ok(Answer::Id(id)),
         }
     }
 
     // Takes the probe id out of the ring, or else out of the late list.
+    #[tactic(auto, using(ring::proofs::PlaceLaws::place_none, ring::proofs::PlaceLaws::place_some), unfolding(crate::specs::Probe::answer_of))]
     pub fn answer(self, id: u32) -> Outcome
         ensures { result ≡ answer_of self id }
     {
-        let ring = self.ring;
-        let slot = ring::ring::find(ring, id);
-        if slot < RING {
-            let sent = ring[slot];
-            let closed = ring::ring::take_out(ring, slot);
-            let ids = ids::answered_ids(self.ids, id);
-            let mut out = self;
-            out.ring = closed;
-            out.ids = ids;
-            out.misses = 0;
-            let in_time = Answer::InTime(sent);
+        let mut path = self;
+        if let Some(slot) = find(&self.ring, id) {
+            path.ring = take_out(self.ring, slot);
+            path.ids = ids::answered_ids(self.ids, id);
+            path.misses = 0;
             return Outcome {
-                path: out,
-                answer: in_time,
+                path,
+                answer: Ok(Answer::InTime(self.ring[slot])),
             };
         }
-        let late = self.late;
-        let place = ring::ring::find_late(late, id);
-        if place < LATE {
-            let sent = late[place];
-            let free = ring::ring::none();
-            let mut out = self;
-            out.late[place] = free;
-            let too_late = Answer::Late(sent);
-            return Outcome {
-                path: out,
-                answer: too_late,
-            };
+        let Some(place) = find(&self.late, id) else {
+            return refused(self, Refusal::Unknown);
+        };
+        path.late[place] = none();
+        Outcome {
+            path,
+            answer: Ok(Answer::Late(self.late[place])),
         }
-        let why = Refusal::Unknown;
-        refused(self, why)
     }
 
     // Takes the probe that lapses out of the ring into the late list, deferring others on the way to it.
+    #[tactic(auto, unfolding(crate::specs::Probe::expire_of))]
     pub fn expire(self, now: u64, overdue: bool, cap: u64) -> Outcome
         ensures { result ≡ expire_of self now overdue cap }
     {
         if DURATION_END <= cap {
-            let why = Refusal::Duration;
-            return refused(self, why);
+            return refused(self, Refusal::Duration);
         }
-        let ring = self.ring;
-        let traffic = self.traffic;
-        let data_at = traffic.data_at;
-        let scanned = lapses::scan(ring, data_at, cap, now, overdue);
-        let left = scanned.ring;
-        let slot = scanned.slot;
-        let mut out = self;
-        if slot >= RING {
-            out.ring = left;
-            let idle = Answer::Idle;
+        let Scanned { ring, slot } = lapses::scan(
+            self.ring,
+            self.traffic.data_at,
+            cap,
+            now,
+            overdue,
+        );
+        if RING <= slot {
             return Outcome {
-                path: out,
-                answer: idle,
+                path: Liveness { ring, ..self },
+                answer: Ok(Answer::Idle),
             };
         }
-        let sent = left[slot];
-        let closed = ring::ring::take_out(left, slot);
-        let late = self.late;
-        let later = ring::ring::remember(late, sent);
+        let sent = ring[slot];
         let miss = ids::counted(self.ids, sent.probe_id);
-        let fall = ids::padded(self.ids, sent);
-        let fallen = fall | self.ladder.fallen;
-        let misses = ids::missed(self.misses, miss);
-        out.ring = closed;
-        out.late = later;
-        out.ladder.fallen = fallen;
-        out.misses = misses;
-        let answer = Answer::Lapsed(miss);
+        let fallen = ids::padded(self.ids, sent) || self.ladder.fallen;
         Outcome {
-            path: out,
-            answer: answer,
+            path: Liveness {
+                ring: take_out(ring, slot),
+                late: remember(self.late, sent),
+                ladder: Ladder {
+                    fallen,
+                    ..self.ladder
+                },
+                misses: ids::missed(self.misses, miss),
+                ..self
+            },
+            answer: Ok(Answer::Lapsed(miss)),
         }
     }
 
@@ -149,35 +124,30 @@ impl Liveness {
     pub fn lapse(self, sent: Sent) -> Self
         ensures { result ≡ lapse_of self sent }
     {
-        let late = self.late;
-        let later = ring::ring::remember(late, sent);
-        let mut out = self;
-        out.late = later;
-        out
+        Liveness {
+            late: remember(self.late, sent),
+            ..self
+        }
     }
 
     // Gives up every waiting probe; the late list keeps them.
     pub fn clear(self) -> Self
         ensures { result ≡ clear_of self }
     {
-        let ring = self.ring;
-        let late = self.late;
-        let later = ring::ring::sweep(late, ring);
-        let free = ring::ring::none();
-        let empty = [free; RING];
-        let mut out = self;
-        out.ring = empty;
-        out.late = later;
-        out
+        Liveness {
+            ring: [none(); RING],
+            late: sweep(self.late, self.ring),
+            ..self
+        }
     }
 
     // A probe that waits now does not count when it lapses.
     pub fn thaw(self) -> Self
         ensures { result ≡ thaw_of self }
     {
-        let ids = ids::thawed_ids(self.ids);
-        let mut out = self;
-        out.ids = ids;
-        out
+        Liveness {
+            ids: ids::thawed_ids(self.ids),
+            ..self
+        }
     }
 }

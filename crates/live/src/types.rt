@@ -1,17 +1,16 @@
-// What a path's liveness is made of, and what its methods answer. A field that may be missing is an enum and stands in
-// a small struct, which is made anew and stored whole.
-use base::types::*;
-use ring::types::*;
-use rtt::types::*;
-use seek::types::*;
-use stop::types::*;
+// What a path's liveness is made of, and what its methods answer.
+use base::types::Refusal;
+use ring::types::{Ids, LATE, RING, Sent};
+use rtt::types::Rtts;
+use seek::types::{Ladder, Sizes};
+use stop::types::Silence;
 
 // The frames received: when the last one and the last session datagram came, how many, and their bytes, both modulo
 // 2^32.
 #[derive(Clone, Copy)]
 pub struct Traffic {
-    pub heard_at: MaybeTime,
-    pub data_at: MaybeTime,
+    pub heard_at: Option<u64>,
+    pub data_at: Option<u64>,
     pub frames: u32,
     pub bytes: u32,
 }
@@ -54,12 +53,11 @@ pub enum Answer {
     Len(u16),
     Time(u64),
     Flag(bool),
-    Refused(Refusal),
 }
 
 // What a method gives: the path after it, which is as it came where the answer is a refusal, and the answer.
 #[derive(Clone, Copy)]
 pub struct Outcome {
     pub path: Liveness,
-    pub answer: Answer,
+    pub answer: Result<Answer, Refusal>,
 }

@@ -32,20 +32,17 @@ fn main(rt: HostRuntime) -> io::Result<()> {
     // What ends must be seen to end: 2^64 - 1 turns are more than any input has.
     for _ in 0..u64::MAX {
         let r = portions::feed::call(&mut settings, &mut rec, mark, buf, p, n, out);
-        let wrote = r.wrote;
-        let next = r.mark;
-        let phase = next.phase;
-        mark = next;
-        p = std::num::wrapping_add_usize(p, r.place);
-        output.write_all(&out[0..wrote])?;
-        if portions::feed::is_over(phase) {
+        mark = r.mark;
+        p = p.wrapping_add(r.place);
+        output.write_all(&out[0..r.wrote])?;
+        if portions::feed::is_over(mark.phase) {
             return Ok(());
         }
         if !r.full {
             let held = portions::feed::shift(buf, p, n);
             let got = input.read(&mut buf[held..])?;
             p = 0;
-            n = std::num::wrapping_add_usize(held, got);
+            n = held.wrapping_add(got);
             if n == held {
                 let last = portions::feed::finish(mark, buf, 0, n, out);
                 let line = &out[..];

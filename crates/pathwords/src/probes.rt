@@ -9,21 +9,16 @@ use ring::types::*;
 use seek::types::Ladder;
 
 // The probe that a row says.
+#[tactic(auto, unfolding(cells::specs::Cells::sent_in))]
 pub fn sent_in(t: [u64; 4]) -> Sent
     ensures { result ≡ sent_in t }
 {
-    let at = t[0];
-    let due = t[1];
-    let id = low(t[2]);
-    let mark = t[3];
-    let len = short(mark);
-    let used = 65536 <= mark;
     Sent {
-        at: at,
-        due: due,
-        probe_id: id,
-        len: len,
-        used: used,
+        at: t[0],
+        due: t[1],
+        probe_id: low(t[2]),
+        len: short(t[3]),
+        used: 65536 <= t[3],
     }
 }
 
@@ -31,7 +26,7 @@ pub fn sent_in(t: [u64; 4]) -> Sent
 fn marked(len: u16, used: bool) -> u64
     ensures { (result ≡ len + cond used 65536 0) × (len < 65536) }
 {
-    let n = wide_len(len);
+    let n = u64::from(len);
     if used { n + 65536 } else { n }
 }
 
@@ -39,24 +34,19 @@ fn marked(len: u16, used: bool) -> u64
 pub fn sent_row(s: Sent) -> [u64; 4]
     ensures { (result ≡ sent_row s) × (sent_in result ≡ s) }
 {
-    let id = wide(s.probe_id);
-    let end = marked(s.len, s.used);
-    [s.at, s.due, id, end]
+    [s.at, s.due, u64::from(s.probe_id), marked(s.len, s.used)]
 }
 
 // The identifiers that a row says.
+#[tactic(auto, unfolding(cells::specs::Cells::ids_in))]
 pub fn ids_in(t: [u64; 4]) -> Ids
     ensures { result ≡ ids_in t }
 {
-    let next_id = id_in(t[0]);
-    let answered = id_in(t[1]);
-    let epoch = id_in(t[2]);
-    let since = id_in(t[3]);
     Ids {
-        next_id: next_id,
-        answered: answered,
-        epoch: epoch,
-        since: since,
+        next_id: id_in(t[0]),
+        answered: id_in(t[1]),
+        epoch: id_in(t[2]),
+        since: id_in(t[3]),
     }
 }
 
@@ -64,26 +54,22 @@ pub fn ids_in(t: [u64; 4]) -> Ids
 pub fn ids_row(m: Ids) -> [u64; 4]
     ensures { (result ≡ ids_row m) × (ids_in result ≡ m) }
 {
-    let next_id = m.next_id;
-    let answered = m.answered;
-    let epoch = m.epoch;
-    let since = m.since;
-    let a = id_word(next_id);
-    let b = id_word(answered);
-    let c = id_word(epoch);
-    let d = id_word(since);
-    [a, b, c, d]
+    [
+        id_word(m.next_id),
+        id_word(m.answered),
+        id_word(m.epoch),
+        id_word(m.since),
+    ]
 }
 
 // The ladder that a word says.
+#[tactic(auto, unfolding(cells::specs::Cells::ladder_in))]
 pub fn ladder_in(w: u64) -> Ladder
     ensures { result ≡ ladder_in w }
 {
-    let last = len_in(w % 131072);
-    let fallen = 131072 <= w;
     Ladder {
-        last: last,
-        fallen: fallen,
+        last: len_in(w % 131072),
+        fallen: 131072 <= w,
     }
 }
 
@@ -98,8 +84,5 @@ fn fall(fallen: bool) -> u64
 pub fn ladder_word(l: Ladder) -> u64
     ensures { (result ≡ ladder_word l) × (ladder_in result ≡ l) }
 {
-    let m = l.last;
-    let last = len_word(m);
-    let mark = fall(l.fallen);
-    last + mark
+    len_word(l.last) + fall(l.fallen)
 }

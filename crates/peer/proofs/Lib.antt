@@ -1,5 +1,4 @@
 -- Laws that the proofs of several functions cite.
-pub mod SettingLaws
 pub mod FreshLaws
 pub mod EventLaws
 pub mod CallLaws

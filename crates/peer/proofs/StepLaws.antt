@@ -1,5 +1,7 @@
 -- One event on a record in words, by choose, a slot of the record, or one that is none.
 -- Assumes nothing.
+use Rattle.std.specs.Prelude.{Result}
+use Rattle.base.specs.declared.types.Refusal.{Refusal}
 use Prim.Native.Nat.{ℕ, ◌^◌, ◌/◌, ◌%◌, ◌<◌, ◌≤◌}
 use mathlib.Core.Path.{◌≡◌, refl, ap, sym, subst, ◌∙◌}
 use mathlib.Core.Bool.{true, false, ◌||◌}
@@ -32,7 +34,7 @@ use Rattle.rows.proofs.BlockLaws.{map-set}
 use Rattle.peer.specs.Record.{record_in, beyond_of, Steps, Tells}
 
 -- nothing stored
-still : (t : List ℕ) (a : List (List (List ℕ))) (e : Event) {x : Reply} (y : Reply) → x ≡ y
+still : (t : List ℕ) (a : List (List (List ℕ))) (e : Event) {x : Result Reply Refusal} (y : Result Reply Refusal) → x ≡ y
     → step (record_in t a) e ≡ record { next = record_in t a; reply = y } → Steps t a a x e
 still t a e {x} y q f =
     record {
@@ -53,17 +55,17 @@ beyond t e h =
     on-flag (ltb e.kind 1 || ltb 15 e.kind) (λ q. rw q) (λ q. rw (q, k))
 
 module _ (t : List ℕ) (a : List (List (List ℕ))) (e : Event) where
-  pub steps-choose : {x : Reply} → e.kind ≡ 15 → x ≡ chosen_of (map slot_in a) e.span
+  pub steps-choose : {x : Result Reply Refusal} → e.kind ≡ 15 → x ≡ chosen_of (map slot_in a) e.span
       → Steps t a a x e
   steps-choose k q = still t a e (chosen_of (map slot_in a) e.span) q (step-choose (record_in t a) e k)
 
-  pub steps-out : {x : Reply} → length a ≡ 8 → eqb e.kind 15 ≡ false → 7 < e.slot
+  pub steps-out : {x : Result Reply Refusal} → length a ≡ 8 → eqb e.kind 15 ≡ false → 7 < e.slot
       → x ≡ beyond_of (verdict_of (refusals (settings_in t) false e)) → Steps t a a x e
   steps-out {x} n k h q =
       let o : length (map slot_in a) ≤ e.slot = omega (arith, length-map a slot_in) in
       still t a e (on_slot (settings_in t) empty_slot e).reply (q ∙ beyond (settings_in t) e h) (step-out (record_in t a) e k o)
 
-  pub steps-in : {q : List (List ℕ)} {x : Reply} → length a ≡ 8 → eqb e.kind 15 ≡ false → e.slot ≤ 7
+  pub steps-in : {q : List (List ℕ)} {x : Result Reply Refusal} → length a ≡ 8 → eqb e.kind 15 ≡ false → e.slot ≤ 7
       → Turns (get_or a e.slot []) q x (on_slot (settings_in t) (slot_in (get_or a e.slot [])) e)
       → Steps t a (set a e.slot q) x e
   steps-in {q} {x} n k h u =
@@ -96,7 +98,7 @@ module _ (t : List ℕ) (a : List (List (List ℕ))) (e : Event) where
 
 -- ---- an answer in one word
 
-module _ {t : List ℕ} {a b : List (List (List ℕ))} (e : Event) {x : Reply} (h : Steps t a b x e) where
+module _ {t : List ℕ} {a b : List (List (List ℕ))} (e : Event) {x : Result Reply Refusal} (h : Steps t a b x e) where
   -- the value of a choice is a slot's number; any other answer's is below 2^32 by its type
   value-small : length a ≡ 8 → (is_chosen x ≡ false → value_of x < 2 ^ 32) → value_of x < 2 ^ 32
   unfolding step
@@ -118,7 +120,7 @@ module _ {t : List ℕ} {a b : List (List (List ℕ))} (e : Event) {x : Reply} (
       let word : w ≡ word_of x = g.0 in (
         (let d : w / 2 ^ 32 ≡ number_of x = omega arith in d ∙ ap number_of h.answer),
         (let d : w % 2 ^ 32 ≡ value_of x = omega arith in d ∙ ap value_of h.answer),
-        subst (λ (y : Reply). Steps t a b y e) h.answer h,
+        subst (λ (y : Result Reply Refusal). Steps t a b y e) h.answer h,
       )
 
 -- the same of an event by another name

@@ -1,5 +1,6 @@
 -- Any list of events through the function on lent words, from a new record on: what a caller sees, and demand 3 of it.
-use Rattle.std.specs.Prelude.{ℕ, ◌≡◌, true, List, [], ◌∷◌, map}
+use Rattle.base.specs.declared.types.Refusal.{Refusal}
+use Rattle.std.specs.Prelude.{ℕ, ◌≡◌, true, List, [], ◌∷◌, map, Result}
 use Rattle.rules.specs.Event.{number_of, value_of}
 use Rattle.rules.specs.Step.{Entry, allowed, fresh_record, run, trace}
 use Rattle.rules.specs.Demand3.{FewDraws, Demand3}
@@ -11,7 +12,7 @@ use Rattle.peer.specs.Record.{record_in, record_rows, Steps}
 -- a call, as its caller sees it: the event and the answer
 pub record Exchange : Type 0 where
   pub event : Event
-  pub reply : Reply
+  pub reply : Result Reply Refusal
 
 -- the calls c on one record, each on the words that the one before it left, lead from the words a to the words d: of
 -- each only its contract is known

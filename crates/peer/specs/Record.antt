@@ -1,15 +1,15 @@
 -- The record that lent words say, the encoder's words for a record, and what an event on them leaves. t are the four
 -- words of the settings, a the eight slots before and b those after.
-use Rattle.std.specs.Prelude.{ℕ, ◌^◌, ◌/◌, ◌%◌, ◌≡◌, true, List, [], map, get_or}
+use Rattle.base.specs.declared.types.Refusal.{Refusal}
+use Rattle.std.specs.Prelude.{ℕ, ◌^◌, ◌/◌, ◌%◌, ◌≡◌, true, List, [], map, get_or, Result, Ok, Err}
 use Rattle.base.specs.declared.types.Refusal.TheVariants as refusal
-use Rattle.rules.specs.Event.{Choose, is, number_of, value_of}
+use Rattle.rules.specs.Event.{is, number_of, value_of}
+use Rattle.rules.specs.declared.types.Kind.TheVariants.{Choose}
 use Rattle.rules.specs.Step.{step}
 use Rattle.rules.specs.declared.types.Event.{Event}
 use Rattle.rules.specs.declared.types.Record.{Record}
 use Rattle.rules.specs.declared.types.Reply.{Reply}
 use Rattle.rules.specs.declared.types.Reply.TheVariants as reply
-use Rattle.refusals.specs.declared.refuse.Verdict.{Verdict}
-use Rattle.refusals.specs.declared.refuse.Verdict.TheVariants as verdict
 use Rattle.cells.specs.Cells.{settings_in}
 use Rattle.rows.specs.View.{slot_in}
 use Rattle.rows.specs.Encode.{slot_rows}
@@ -33,7 +33,7 @@ AreCoded a = map slot_rows (map slot_in a) ≡ a
 -- words is a bit of that slot that is not read: behind a mark that does not say it is there, above a number's width, of a
 -- mark beside what is read of it, of a NaN's pattern. Where the words were the encoder's, they are the encoder's after it,
 -- and such a bit is fixed too
-pub record Steps (t : List ℕ) (a b : List (List (List ℕ))) (x : Reply) (e : Event) : Type 0 where
+pub record Steps (t : List ℕ) (a b : List (List (List ℕ))) (x : Result Reply Refusal) (e : Event) : Type 0 where
   pub answer : x ≡ (step (record_in t a) e).reply
   pub next : record_in t b ≡ (step (record_in t a) e).next
   pub others : (j : ℕ) → (j ≡ e.slot → ⊥) → get_or b j [] ≡ get_or a j []
@@ -49,6 +49,6 @@ Tells t a b w e =
     (w / 2 ^ 32 ≡ number_of x) × (w % 2 ^ 32 ≡ value_of x) × Steps t a b x e
 
 -- the answer to an event whose slot is none, by the first refusal: 15, else 1
-abbrev pub beyond_of : Verdict → Reply
-beyond_of (verdict.Refused why) = reply.Refused why
-beyond_of verdict.Pass = reply.Refused refusal.Slot
+abbrev pub beyond_of : Result Unit Refusal → Result Reply Refusal
+beyond_of (Err why) = Err why
+beyond_of (Ok tt) = Err refusal.Slot

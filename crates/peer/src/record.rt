@@ -11,7 +11,6 @@ ghost use Rattle.peer.specs.Record.{record_rows, beyond_of, Steps, Tells};
 use base::limits::DURATION_END;
 use base::types::Refusal;
 use queries::choice::chosen;
-use queries::slots;
 use refusals::refuse::*;
 use rows::places::ROWS;
 use rules::types::*;
@@ -21,11 +20,8 @@ use select::types::PATH_MAX_PER_PEER;
 fn empty(rec: &mut [[[u64; 4]; ROWS]; PATH_MAX_PER_PEER])
     ensures { rec.new ≡ replicate 8 (slot_rows empty_slot) }
 {
-    slots(rec);
-    let mut i: usize = 0;
-    while i < PATH_MAX_PER_PEER {
+    for i in 0..PATH_MAX_PER_PEER {
         rows::whole::set_empty(&mut rec[i]);
-        i += 1;
     }
 }
 
@@ -33,21 +29,25 @@ fn empty(rec: &mut [[[u64; 4]; ROWS]; PATH_MAX_PER_PEER])
 fn set_settings(t: &mut [u64; 4], s: Settings)
     ensures { t.new ≡ settings_row s }
 {
-    let w = labels::marks::settings_row(s);
-    *t = w;
+    *t = labels::marks::settings_row(s);
 }
 
 // Whether each setting is below 2^62.
 pub fn is_allowed(t: Settings) -> bool
     ensures { result ≡ allowed t }
 {
-    (((t.cap < DURATION_END) & (t.gap < DURATION_END)) & (t.window < DURATION_END))
-        & (t.horizon < DURATION_END)
+    [t.cap, t.gap, t.window, t.horizon]
+        .iter()
+        .all(|d| *d < DURATION_END)
 }
 
 // Makes a record of eight empty slots in the lent words; with a setting of 2^62 or more the answer is 6, and nothing is
 // written.
-pub fn new(t: &mut [u64; 4], rec: &mut [[[u64; 4]; ROWS]; PATH_MAX_PER_PEER], s: Settings) -> Reply
+pub fn new(
+    t: &mut [u64; 4],
+    rec: &mut [[[u64; 4]; ROWS]; PATH_MAX_PER_PEER],
+    s: Settings,
+) -> Result<Reply, Refusal>
     ensures { (result ≡ (record_of s).reply)
         × (t.new ≡ cond (allowed s) (settings_row s) t.old)
         × (rec.new ≡ cond (allowed s) (record_rows (fresh_record s)) rec.old) }
@@ -55,28 +55,27 @@ pub fn new(t: &mut [u64; 4], rec: &mut [[[u64; 4]; ROWS]; PATH_MAX_PER_PEER], s:
     if is_allowed(s) {
         set_settings(t, s);
         empty(rec);
-        return Reply::Nothing;
+        return Ok(Reply::Nothing);
     }
-    Reply::Refused(Refusal::Duration)
+    Err(Refusal::Duration)
 }
 
 // The refusal of an event whose slot is none.
-fn beyond(t: &[u64; 4], e: Event) -> Reply
+fn beyond(t: &[u64; 4], e: Event) -> Result<Reply, Refusal>
     ensures { result ≡ beyond_of (verdict_of (refusals (settings_in t.now) false e)) }
 {
-    let s = labels::marks::settings_in(*t);
-    let v = first_refusal(s, false, e);
-    match v {
-        Verdict::Refused(why) => Reply::Refused(why),
-        Verdict::Pass => Reply::Refused(Refusal::Slot),
-    }
+    first_refusal(labels::marks::settings_in(*t), false, e)?;
+    Err(Refusal::Slot)
 }
 
 // One event: choose, or the work on its slot.
-pub fn event(t: &[u64; 4], rec: &mut [[[u64; 4]; ROWS]; PATH_MAX_PER_PEER], e: Event) -> Reply
+pub fn event(
+    t: &[u64; 4],
+    rec: &mut [[[u64; 4]; ROWS]; PATH_MAX_PER_PEER],
+    e: Event,
+) -> Result<Reply, Refusal>
     ensures { Steps t.now rec.old rec.new result e }
 {
-    slots(rec);
     if e.kind == 15 {
         return chosen(rec, e.span);
     }
@@ -93,7 +92,5 @@ pub fn tell(t: &[u64; 4], rec: &mut [[[u64; 4]; ROWS]; PATH_MAX_PER_PEER], w: &[
     ensures { Tells t.now rec.old rec.new result
         (event_in w.now) }
 {
-    slots(rec);
-    let e = labels::events::event_in(*w);
-    refusals::reply::word_of(event(t, rec, e))
+    refusals::reply::word_of(event(t, rec, labels::events::event_in(*w)))
 }

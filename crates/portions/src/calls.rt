@@ -24,7 +24,7 @@ pub fn begin(t: &mut [u64; 4], rec: &mut [[[u64; 4]; ROWS]; PATH_MAX_PER_PEER]) 
         window: 0,
         horizon: 0,
     };
-    peer::record::new(t, rec, settings);
+    let _ = peer::record::new(t, rec, settings);
     Mark {
         number: 1,
         phase: Phase::Settings,
@@ -36,10 +36,10 @@ fn stay(mark: Mark, full: bool) -> Call
     ensures { result ≡ stayed_at mark full }
 {
     Call {
-        mark: mark,
+        mark,
         place: 0,
         wrote: 0,
-        full: full,
+        full,
     }
 }
 
@@ -59,9 +59,7 @@ pub fn step(
     if out.len() < 84 {
         return stay(mark, true);
     }
-    let number = mark.number;
-    let phase = mark.phase;
-    match phase {
+    match mark.phase {
         Phase::Settings => {
             if s.len() < 32 {
                 return stay(mark, false);
@@ -71,18 +69,17 @@ pub fn step(
                 return run(t, rec, 1, s, 32, out);
             }
             let wrote = lines::put_line(out, 0, 0, 6, 0);
-            let over = Mark {
-                number: number,
-                phase: Phase::Over,
-            };
             Call {
-                mark: over,
+                mark: Mark {
+                    number: mark.number,
+                    phase: Phase::Over,
+                },
                 place: 0,
-                wrote: wrote,
+                wrote,
                 full: false,
             }
         }
-        Phase::Running => run(t, rec, number, s, 0, out),
+        Phase::Running => run(t, rec, mark.number, s, 0, out),
         Phase::Over => stay(mark, false),
     }
 }
@@ -92,18 +89,13 @@ pub fn finish(mark: Mark, s: &[u8], out: &mut [u8]) -> usize
     ensures { (result ≡ written (last_in mark.phase mark.number s.now) out.old)
         × (out.new ≡ over (last_in mark.phase mark.number s.now) out.old) }
 {
-    let phase = mark.phase;
-    match phase {
+    match mark.phase {
         Phase::Settings => lines::put_line(out, 0, 0, 13, 0),
         Phase::Running => {
-            let x = eventfile::record_at(s, 0);
-            match x {
-                Parse::End => 0,
-                Parse::Event(e, next) => 0,
-                Parse::Refused(why, kind) => {
-                    lines::put_line(out, mark.number, kind as u64, why.number(), 0)
-                }
-            }
+            let Parse::Refused(why, kind) = eventfile::record_at(s, 0) else {
+                return 0;
+            };
+            lines::put_line(out, mark.number, u64::from(kind), why.number(), 0)
         }
         Phase::Over => 0,
     }

@@ -1,5 +1,5 @@
 // What a program that reads in portions does with the bytes that it holds: those from p on and before n of `buf`.
-ghost use Rattle.std.specs.Prelude.{◌≡◌, min, ◌-◌, ◌≤◌, length};
+ghost use Rattle.std.specs.Prelude.{◌≡◌, ◌-◌, ◌≤◌, length};
 ghost use Rattle.lines.specs.Text.{written};
 ghost use Rattle.octets.specs.Octets.{over};
 ghost use Rattle.session.specs.Sessions.{part_of, lines_in, ran_of, last_in};
@@ -10,13 +10,6 @@ use base::types::Refusal;
 use rows::places::ROWS;
 use select::types::PATH_MAX_PER_PEER;
 use session::types::*;
-
-// The lesser of two places, for a part that lies within the lent bytes whatever the places are.
-fn lesser(a: usize, b: usize) -> usize
-    ensures { result ≡ min a b }
-{
-    if a <= b { a } else { b }
-}
 
 // A call on the bytes held. What it wrote stands in `out`, and what it read in the bytes held.
 pub fn call(
@@ -34,8 +27,8 @@ pub fn call(
         (part_of p n buf.now)) }
     ensures wrote_in_bounds { (result.wrote ≤ length out.new) × (result.place ≤ n - p) }
 {
-    let to = lesser(n, buf.len());
-    let from = lesser(p, to);
+    let to = n.min(buf.len());
+    let from = p.min(to);
     crate::calls::step(t, rec, mark, &buf[from..to], out)
 }
 
@@ -47,8 +40,8 @@ pub fn finish(mark: Mark, buf: &[u8], p: usize, n: usize, out: &mut [u8]) -> usi
         (last_in mark.phase mark.number (part_of p n buf.now)) out.old) }
     ensures upper_bound { result ≤ length out.new }
 {
-    let to = lesser(n, buf.len());
-    let from = lesser(p, to);
+    let to = n.min(buf.len());
+    let from = p.min(to);
     crate::calls::finish(mark, &buf[from..to], out)
 }
 
@@ -65,9 +58,5 @@ pub fn shift(buf: &mut [u8], p: usize, n: usize) -> usize
 pub fn is_over(phase: Phase) -> bool
     ensures { result ≡ is_over phase }
 {
-    match phase {
-        Phase::Settings => false,
-        Phase::Running => false,
-        Phase::Over => true,
-    }
+    matches!(phase, Phase::Over)
 }

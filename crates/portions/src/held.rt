@@ -8,15 +8,9 @@ pub fn shift(buf: &mut [u8], from: usize, to: usize) -> usize
     ensures { (result ≡ length (part_of from to buf.old))
         × (buf.new ≡ over (part_of from to buf.old) buf.old) }
 {
-    let mut i: usize = 0;
-    let mut j = from;
-    while j < to {
-        if buf.len() <= j {
-            return i;
-        }
-        buf[i] = buf[j];
-        i += 1;
-        j += 1;
+    let end = to.min(buf.len());
+    for j in from..end {
+        buf[j - from] = buf[j];
     }
-    i
+    end.saturating_sub(from)
 }

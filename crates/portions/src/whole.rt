@@ -8,17 +8,16 @@ use crate::calls::{begin, finish, step};
 use base::types::Refusal;
 use rows::places::ROWS;
 use select::types::PATH_MAX_PER_PEER;
-use standing::types::Written;
 
 // Writes the lines of a file to the front of `out`, or nothing where `out` has no room for a line of 84 bytes for each
 // three bytes of the file and one more; demand 3 holds of the file's events and these answers.
-pub fn lines_of_file(s: &[u8], out: &mut [u8]) -> Written
+pub fn lines_of_file(s: &[u8], out: &mut [u8]) -> Result<usize, Refusal>
     ensures { (result ≡ file_reply s.now out.old)
         × (out.new ≡ over (file_text s.now out.old) out.old)
         × FileDemand s.now }
 {
     if out.len() / 84 <= s.len() / 3 {
-        return Written::Refused(Refusal::Lent);
+        return Err(Refusal::Lent);
     }
     let word = [0u64; 4];
     let path = [word; ROWS];
@@ -26,9 +25,6 @@ pub fn lines_of_file(s: &[u8], out: &mut [u8]) -> Written
     let mut rec = [path; PATH_MAX_PER_PEER];
     let mark = begin(&mut t, &mut rec);
     let r = step(&mut t, &mut rec, mark, s, out);
-    let left = r.mark;
-    let p = r.place;
-    let w = r.wrote;
-    let k = finish(left, &s[p..], &mut out[w..]);
-    Written::Count(w + k)
+    let k = finish(r.mark, &s[r.place..], &mut out[r.wrote..]);
+    Ok(r.wrote + k)
 }

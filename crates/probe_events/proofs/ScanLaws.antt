@@ -1,19 +1,17 @@
 -- A scan that defers in place, what `expire` makes, and a poll one `expire` after the other.
 -- Assumes nothing.
+use Rattle.std.specs.Prelude.{Option, None, Some, Ok}
 use Prim.Native.Nat.{ℕ, ◌+◌, ◌-◌, ◌<◌, ◌≤◌}
 use mathlib.Core.Path.{◌≡◌, refl, ap, sym, ◌∙◌}
 use mathlib.Core.Bool.{Bool, true, false, cond, ◌||◌}
-use mathlib.Core.List.{List}
+use mathlib.Core.List.{List, [], ◌∷◌}
 use native.Mathlib.Omega.{arith}
 use borrow.Author.Tests.{lt-leb, le-leb, lt-ltb, le-ltb}
 use lib.Dec.{leb, ltb}
 use lib.ListN.{length, set, get_or}
 use Rattle.base.specs.Limits.{duration_end}
-use Rattle.base.specs.Seq.{position, keep}
-use Rattle.base.specs.declared.types.MaybeTime.{MaybeTime}
-use Rattle.base.specs.declared.types.MaybeTime.TheVariants as time
+use Rattle.std.specs.List.{filter, position_from}
 use Rattle.base.proofs.Cases.{on-order, cond_same}
-use Rattle.base.proofs.ScanLaws.{position-none}
 use Rattle.ring.specs.Ids.{is_counted, missed_by}
 use Rattle.ring.specs.Ring.{max_waiting, taken_out, remembered, no_sent}
 use Rattle.ring.specs.Lapse.{is_passed, defer_of, scan_of, is_padded, with_due}
@@ -42,42 +40,43 @@ use Rattle.probe_events.specs.Scan.{scan_in, lapsed_in}
 -- ---- the scan
 
 -- b's ring is what is left of a's; all else is a's
-pub record ScanTo (p : Sent → Bool) (f : Sent → MaybeTime) (a b : List (List ℕ)) : Type 0 where
+pub record ScanTo (p : Sent → Bool) (f : Sent → Option ℕ) (a b : List (List ℕ)) : Type 0 where
   pub says : Says a b (with_ring (path_in a) (path_in b).ring)
   pub ring : Scanning p f (path_in a).ring 8 (path_in b).ring
 
 -- nothing is deferred yet
-pub scan-start : (cap at : ℕ) (overdue : Bool) (t : MaybeTime) (a : List (List ℕ)) → length a ≡ row_count
+pub scan-start : (cap at : ℕ) (overdue : Bool) (t : Option ℕ) (a : List (List ℕ)) → length a ≡ row_count
     → ScanTo (is_passed at overdue) (defer_of t cap at overdue) a a
 scan-start cap at overdue t a h =
     record { says = says_none refl; ring = record { sound = not-passed cap at overdue t; long = ring-length a h; same = refl } }
 
-module _ {p : Sent → Bool} {f : Sent → MaybeTime} {a b : List (List ℕ)} {i : ℕ} (s : ScanTo p f a b) (e : i ≡ position p (path_in b).ring) where
-  -- the scan ends here
+module _ {p : Sent → Bool} {f : Sent → Option ℕ} {a b : List (List ℕ)} {i : ℕ} (s : ScanTo p f a b) where
+  -- the scan ends at i
   done_at : {l : Scanned} → record { ring = (path_in b).ring; slot = i } ≡ l → (i ≡ l.slot) × Says a b (with_ring (path_in a) l.ring)
   done_at q = (ap (λ (x : Scanned). x.slot) q, says-as s.says (ap (λ (x : Scanned). with_ring (path_in a) x.ring) q))
 
-  -- none has passed
-  pub scan-none : 8 ≤ i → (i ≡ (scan_of p f (path_in a).ring).slot) × Says a b (with_ring (path_in a) (scan_of p f (path_in a).ring).ring)
-  scan-none h = done_at (scanning-none s.ring e h)
-
-  module _ (h : i < 8) {x : Sent} (g : x ≡ get_or (path_in b).ring i no_sent) where
+  module _ (e : Some i ≡ position_from p 0 (path_in b).ring) {x : Sent} (g : x ≡ get_or (path_in b).ring i no_sent) where
     -- one has passed that is not deferred: it lapses
-    pub scan-stop : f x ≡ time.None → (i ≡ (scan_of p f (path_in a).ring).slot) × Says a b (with_ring (path_in a) (scan_of p f (path_in a).ring).ring)
-    scan-stop d = done_at (scanning-lapses no_sent s.ring e h (ap f (sym g) ∙ d))
+    pub scan-stop : f x ≡ None → (i ≡ (scan_of p f (path_in a).ring).slot) × Says a b (with_ring (path_in a) (scan_of p f (path_in a).ring).ring)
+    scan-stop d = done_at (scanning-lapses s.ring e no_sent (ap f (sym g) ∙ d))
 
-    module _ (u : ℕ) (d : f x ≡ time.Some u) {c : List (List ℕ)} (k : Says b c (with_ring (path_in b) (set (path_in b).ring i (with_due x u)))) where
+    module _ (u : ℕ) (d : f x ≡ Some u) {c : List (List ℕ)} (k : Says b c (with_ring (path_in b) (set (path_in b).ring i (with_due x u)))) where
       -- the ring after it is deferred
       deferred : (path_in c).ring ≡ set (path_in b).ring i (with_due (get_or (path_in b).ring i no_sent) u)
       deferred = ring-is k ∙ ap (λ (y : Sent). set (path_in b).ring i (with_due y u)) g
 
       -- one is deferred, and the scan goes on
       pub scan-next : ScanTo p f a c
-      scan-next = record { says = again s.says k; ring = rw deferred (scanning-defers no_sent s.ring e h u (ap f (sym g) ∙ d)) }
+      scan-next = record { says = again s.says k; ring = rw deferred (scanning-defers s.ring e no_sent (ap f (sym g) ∙ d)) }
 
       -- and fewer have passed
-      pub scan-less : length (keep p (path_in c).ring) < length (keep p (path_in b).ring)
-      scan-less = rw deferred (scanning-less no_sent s.ring e h u (ap f (sym g) ∙ d))
+      pub scan-less : length (filter p (path_in c).ring) < length (filter p (path_in b).ring)
+      scan-less = rw deferred (scanning-less s.ring e no_sent (ap f (sym g) ∙ d))
+
+-- none has passed
+pub scan-none : {p : Sent → Bool} {f : Sent → Option ℕ} {a b : List (List ℕ)} → ScanTo p f a b → None ≡ position_from p 0 (path_in b).ring
+    → (8 ≡ (scan_of p f (path_in a).ring).slot) × Says a b (with_ring (path_in a) (scan_of p f (path_in a).ring).ring)
+scan-none s e = done_at s (scanning-none s.ring e)
 
 -- ---- the lapse
 
@@ -121,14 +120,14 @@ module _ (a : List (List ℕ)) (at : ℕ) (overdue : Bool) (cap : ℕ) where
   unfolding expire_of
   expire-long h = rw (le-leb duration_end cap h) (refl, says_none refl)
 
-  module _ (h : cap < duration_end) {t : MaybeTime} {slot : ℕ} {b : List (List ℕ)} (f : t ≡ (path_in a).traffic.data_at)
+  module _ (h : cap < duration_end) {t : Option ℕ} {slot : ℕ} {b : List (List ℕ)} (f : t ≡ (path_in a).traffic.data_at)
       (g : (slot ≡ (scan_in a t cap at overdue).slot) × Says a b (with_ring (path_in a) (scan_in a t cap at overdue).ring)) where
     -- what the scan left
     scanned : record { ring = (path_in b).ring; slot = slot }
         ≡ scan_of (is_passed at overdue) (defer_of (path_in a).traffic.data_at cap at overdue) (path_in a).ring
     scanned =
         (λ k. record { ring = ring-is g.1 k; slot = g.0 k })
-        ∙ ap (λ (x : MaybeTime). scan_of (is_passed at overdue) (defer_of x cap at overdue) (path_in a).ring) f
+        ∙ ap (λ (x : Option ℕ). scan_of (is_passed at overdue) (defer_of x cap at overdue) (path_in a).ring) f
 
     -- all else stayed
     kept : Says a b (with_ring (path_in a) (path_in b).ring)
@@ -164,11 +163,11 @@ poll-start a at overdue cap = record { says = says_none refl; done = polled-star
 module _ {a : List (List ℕ)} {at : ℕ} {overdue : Bool} {cap : ℕ} {b : List (List ℕ)} {n : ℕ} (s : PollTo a at overdue cap b n) where
   -- the poll ends with the rows c
   ended : {c : List (List ℕ)} → Says a c (path_in c) → record { path = path_in c; lapses = n } ≡ whole_poll (path_in a) at overdue cap
-      → Turns a c (reply.Count n) (polled (slot_in a) (whole_poll (path_in a) at overdue cap))
+      → Turns a c (Ok (reply.Count n)) (polled (slot_in a) (whole_poll (path_in a) at overdue cap))
   ended k e = turns_as (turns-by k refl refl) (ap (λ (x : Polling). polled (slot_in a) x) e)
 
   -- nine have lapsed
-  pub poll-end : 9 ≤ n → Turns a b (reply.Count n) (polled (slot_in a) (whole_poll (path_in a) at overdue cap))
+  pub poll-end : 9 ≤ n → Turns a b (Ok (reply.Count n)) (polled (slot_in a) (whole_poll (path_in a) at overdue cap))
   poll-end h = ended s.says (polled-end s.done h)
 
   module _ (h : n < 9) {t : Bool} {c : List (List ℕ)}
@@ -182,23 +181,22 @@ module _ {a : List (List ℕ)} {at : ℕ} {overdue : Bool} {cap : ℕ} {b : List
     poll-next e = record { says = after; done = rw g.1.path (polled-next s.done h refl (sym g.0 ∙ e)) }
 
     -- none lapsed
-    pub poll-none : t ≡ false → Turns a c (reply.Count n) (polled (slot_in a) (whole_poll (path_in a) at overdue cap))
+    pub poll-none : t ≡ false → Turns a c (Ok (reply.Count n)) (polled (slot_in a) (whole_poll (path_in a) at overdue cap))
     poll-none e =
         ended after ((λ k. record { path = g.1.path k; lapses = n }) ∙ polled-none s.done h refl (sym g.0 ∙ e))
 
 -- ---- the first whose due has passed
 
 -- where overdue no due has passed at instant 0
-pub none_before : (l : List Sent) {k : ℕ} → length l ≡ 8 → k ≡ 0 → 8 ≡ position (is_passed k true) l
-none_before l {k} n e =
-    sym n ∙ position-none no_sent (is_passed k true) l (λ j h. none (get_or l j no_sent))
-  where
-    none : (s : Sent) → is_passed k true s ≡ false
-    none s = rw (le-ltb s.due k (omega arith)) (cond_same s.used false)
+pub none_before : (l : List Sent) (i : ℕ) {k : ℕ} → k ≡ 0 → None ≡ position_from (is_passed k true) i l
+none_before [] i e = refl
+none_before (s ∷ l) i {k} e =
+    let q : is_passed k true s ≡ false = rw (le-ltb s.due k (omega arith)) (cond_same s.used false) in
+    rw q (none_before l (i + 1) e)
 
 -- and at any other one has passed if it is not after the instant before
-pub due-before : (l : List Sent) (k : ℕ) → (k ≡ 0 → ⊥) → position (is_passed (k - 1) false) l ≡ position (is_passed k true) l
-due-before l k h = λ i. position (λ (s : Sent). cond s.used (before s.due i) false) l
+pub due-before : (l : List Sent) (k : ℕ) → (k ≡ 0 → ⊥) → position_from (is_passed (k - 1) false) 0 l ≡ position_from (is_passed k true) 0 l
+due-before l k h = λ i. position_from (λ (s : Sent). cond s.used (before s.due i) false) 0 l
   where
     before : (due : ℕ) → leb due (k - 1) ≡ ltb due k
     before due =

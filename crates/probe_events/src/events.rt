@@ -21,31 +21,26 @@ use waiting::search::*;
 use waiting::store::*;
 
 // Probe.
-pub fn probe(p: &mut [[u64; 4]; ROWS], e: Event) -> Reply
+pub fn probe(p: &mut [[u64; 4]; ROWS], e: Event) -> Result<Reply, Refusal>
     ensures { Turns p.old p.new result
         (turn_by (slot_in p.old) (send_of (path_in p.old) e.now e.span e.len e.id)) }
 {
     if MAX_LEN < e.len {
-        return Reply::Refused(Refusal::Length);
+        return Err(Refusal::Length);
     }
-    let slot = first_free(p);
-    if RING <= slot {
-        return Reply::Refused(Refusal::Full);
-    }
+    let place = first_free(p);
+    let Some(slot) = place else {
+        return Err(Refusal::Full);
+    };
     let short = e.len as u16;
     drop_since(p);
     let kept = ids(p);
-    let next = kept.next_id;
-    let id = ids::taken(next, e.id);
+    let id = ids::taken(kept.next_id, e.id);
     let after = ids::next_ids(kept, id);
-    let later = after.next_id;
-    let before = quiet(p);
-    let first = MaybeTime::Some(stop::silence::from(before, e.now));
-    let l = ladder(p);
-    let last = MaybeLen::Some(short);
+    let first = Some(stop::silence::from(quiet(p), e.now));
     let rung = Ladder {
-        last: last,
-        fallen: l.fallen,
+        last: Some(short),
+        ..ladder(p)
     };
     let s = Sent {
         at: e.now,
@@ -55,75 +50,64 @@ pub fn probe(p: &mut [[u64; 4]; ROWS], e: Event) -> Reply
         used: true,
     };
     set_sent(p, slot, s);
-    set_id(p, 0, later);
+    set_id(p, 0, after.next_id);
     set_quiet(p, first);
     set_ladder(p, rung);
-    Reply::Id(id)
+    Ok(Reply::Id(id))
 }
 
 // Answer, where it is not the search probe's: the ring, then the late list.
-pub fn answer_ring(p: &mut [[u64; 4]; ROWS], id: u32) -> Reply
+pub fn answer_ring(p: &mut [[u64; 4]; ROWS], id: u32) -> Result<Reply, Refusal>
     ensures { Turns p.old p.new result
         (turn_by (slot_in p.old) (answer_of (path_in p.old) id)) }
 {
-    let slot = find(p, id);
-    if slot < RING {
-        let old = ids(p);
-        let after = ids::answered_ids(old, id);
-        let newest = after.answered;
+    let place = find(p, id);
+    if let Some(slot) = place {
+        let after = ids::answered_ids(ids(p), id);
         take_out(p, slot);
-        set_id(p, 1, newest);
+        set_id(p, 1, after.answered);
         set_misses(p, 0);
-        return Reply::InTime;
+        return Ok(Reply::InTime);
     }
-    let place = find_late(p, id);
-    if place < LATE {
-        let free = ring::ring::none();
-        set_late(p, place, free);
-        return Reply::Late;
+    if let Some(slot) = find_late(p, id) {
+        set_late(p, slot, ring::ring::none());
+        return Ok(Reply::Late);
     }
-    Reply::Refused(Refusal::Unknown)
+    Err(Refusal::Unknown)
 }
 
 // Poll: `expire` until none lapses; a ring of eight is empty after eight, and the ninth finds none.
-pub fn poll(p: &mut [[u64; 4]; ROWS], at: u64, overdue: bool, cap: u64) -> Reply
+pub fn poll(p: &mut [[u64; 4]; ROWS], at: u64, overdue: bool, cap: u64) -> Result<Reply, Refusal>
     ensures { Turns p.old p.new result
         (polled (slot_in p.old) (whole_poll (path_in p.old) at overdue cap)) }
 {
-    let mut n: u32 = 0;
-    while n < 9 {
-        if expire(p, at, overdue, cap) {
-            n = n + 1;
-        } else {
-            return Reply::Count(n);
+    for n in 0..9 {
+        if !expire(p, at, overdue, cap) {
+            return Ok(Reply::Count(n));
         }
     }
-    Reply::Count(n)
+    Ok(Reply::Count(9))
 }
 
 // Thaw.
-pub fn thaw(p: &mut [[u64; 4]; ROWS]) -> Reply
+pub fn thaw(p: &mut [[u64; 4]; ROWS]) -> Result<Reply, Refusal>
     ensures { Turns p.old p.new result
-        (turn (slot_in p.old) (thaw_of (path_in p.old)) Nothing) }
+        (turn (slot_in p.old) (thaw_of (path_in p.old)) (Ok Nothing)) }
 {
-    let old = ids(p);
-    let after = ids::thawed_ids(old);
-    let since = after.since;
-    set_id(p, 3, since);
-    Reply::Nothing
+    let after = ids::thawed_ids(ids(p));
+    set_id(p, 3, after.since);
+    Ok(Reply::Nothing)
 }
 
 // Sweep: every waiting probe is given up, and counted.
-pub fn sweep(p: &mut [[u64; 4]; ROWS]) -> Reply
+pub fn sweep(p: &mut [[u64; 4]; ROWS]) -> Result<Reply, Refusal>
     ensures { Turns p.old p.new result
         (turn (slot_in p.old) (clear_of (path_in p.old))
-        (Count (outstanding_of (path_in p.old).ring))) }
+        (Ok (Count (outstanding_of (path_in p.old).ring)))) }
 {
     let ring = ring_of(p);
-    let old = late_of(p);
     let n = ring::ring::outstanding(ring);
-    let after = ring::ring::sweep(old, ring);
-    set_lates(p, after);
+    set_lates(p, ring::ring::sweep(late_of(p), ring));
     free_from(p, 0);
-    Reply::Count(n as u32)
+    Ok(Reply::Count(n as u32))
 }

@@ -1,6 +1,6 @@
 // The probe of a slot's rows that lapses: the first whose due has passed and that no data defers; deferred in place.
 ghost use Rattle.std.specs.Prelude.{◌≡◌, false};
-ghost use Rattle.base.specs.Seq.{position};
+ghost use Rattle.std.specs.List.{position_from};
 ghost use Rattle.ring.specs.Lapse.{is_passed};
 ghost use Rattle.live.specs.Answers.{has_lapsed};
 ghost use Rattle.live.specs.Path.{with_ring};
@@ -19,30 +19,25 @@ use rows::probes::*;
 use seek::types::Ladder;
 use waiting::store::*;
 
-// The place of the first probe whose due is not after an instant, or 8.
-fn first_due(p: &[[u64; 4]; ROWS], last: u64) -> usize
-    ensures { result ≡ position (is_passed last false) (path_in p.now).ring }
+// The place of the first probe whose due is not after an instant.
+fn first_due(p: &[[u64; 4]; ROWS], last: u64) -> Option<usize>
+    ensures { result ≡ position_from (is_passed last false) 0 (path_in p.now).ring }
 {
-    rows(p);
-    let mut i: usize = 0;
-    while i < RING {
-        let s = sent(p, i);
-        if is_passed(s, last, false) {
-            return i;
+    for i in 0..RING {
+        if is_passed(sent(p, i), last, false) {
+            return Some(i);
         }
-        i += 1;
     }
-    i
+    None
 }
 
-// The place of the first probe whose due has passed, or 8: what is before an instant is not after the one before it.
-fn first_passed(p: &[[u64; 4]; ROWS], at: u64, overdue: bool) -> usize
-    ensures { result ≡ position (is_passed at overdue) (path_in p.now).ring }
+// The place of the first probe whose due has passed: what is before an instant is not after the one before it.
+fn first_passed(p: &[[u64; 4]; ROWS], at: u64, overdue: bool) -> Option<usize>
+    ensures { result ≡ position_from (is_passed at overdue) 0 (path_in p.now).ring }
 {
-    rows(p);
     if overdue {
         if at == 0 {
-            return RING;
+            return None;
         }
         return first_due(p, at - 1);
     }
@@ -50,34 +45,20 @@ fn first_passed(p: &[[u64; 4]; ROWS], at: u64, overdue: bool) -> usize
 }
 
 // Defers probes, and gives the place of the one that lapses, or 8.
-fn scan(p: &mut [[u64; 4]; ROWS], heard: MaybeTime, cap: u64, at: u64, overdue: bool) -> usize
+fn scan(p: &mut [[u64; 4]; ROWS], heard: Option<u64>, cap: u64, at: u64, overdue: bool) -> usize
     ensures { (result ≡ (scan_in p.old heard cap at overdue).slot)
         × Says p.old p.new
         (with_ring (path_in p.old) (scan_in p.old heard cap at overdue).ring) }
 {
-    rows(p);
     let slot = loop {
-        let i = first_passed(p, at, overdue);
-        if i >= RING {
-            break i;
-        }
+        let Some(i) = first_passed(p, at, overdue) else {
+            break RING;
+        };
         let s = sent(p, i);
-        let wait = defer(s, heard, cap, at, overdue);
-        match wait {
-            MaybeTime::None => {
-                break i;
-            }
-            MaybeTime::Some(until) => {
-                let t = Sent {
-                    at: s.at,
-                    due: until,
-                    probe_id: s.probe_id,
-                    len: s.len,
-                    used: s.used,
-                };
-                set_sent(p, i, t);
-            }
-        }
+        let Some(due) = defer(s, heard, cap, at, overdue) else {
+            break i;
+        };
+        set_sent(p, i, Sent { due, ..s });
     };
     slot
 }
@@ -91,14 +72,11 @@ fn lapse(p: &mut [[u64; 4]; ROWS], slot: usize)
     let miss = ids::counted(m, s.probe_id);
     let fall = ids::padded(m, s);
     let l = ladder(p);
-    let fallen = fall | l.fallen;
-    let last = l.last;
     let rung = Ladder {
-        last: last,
-        fallen: fallen,
+        fallen: fall | l.fallen,
+        ..l
     };
-    let before = misses(p);
-    let after = ids::missed(before, miss);
+    let after = ids::missed(misses(p), miss);
     take_out(p, slot);
     remember(p, s);
     set_ladder(p, rung);

@@ -1,5 +1,6 @@
 -- The slot that a choice names is one of the record's.
 -- Assumes nothing.
+use Rattle.std.specs.Prelude.{Option, None, Some}
 use Prim.Native.Nat.{ℕ, suc, ◌+◌, ◌≤◌, ◌<◌}
 use mathlib.Core.Path.{◌≡◌, ap}
 use mathlib.Core.List.Memᴰ
@@ -12,8 +13,6 @@ use Rattle.base.specs.First.{unbeaten}
 use Rattle.select.specs.Rivals.{by_tier}
 use Rattle.select.specs.Choice.{rivals_of, named_of, high_of, ranked_of, picked_of}
 use Rattle.select.specs.declared.types.Rival.{Rival}
-use Rattle.select.specs.declared.types.MaybeRival.{MaybeRival}
-use Rattle.select.specs.declared.types.MaybeRival.TheVariants.{None, Some}
 use Rattle.rules.specs.Event.{value_of}
 use Rattle.rules.specs.Step.{rivals_at, is_margin, choice_reply}
 use Rattle.rules.specs.declared.types.Slot.{Slot}
@@ -35,7 +34,7 @@ ranked-in field m =
     let named = (keep-in (unbeaten by_tier (named_of field)) (named_of field) high).0 in
     (keep-in (λ (r : Rival). r.held) field (only-in (λ (r : Rival). r.pinned) (rivals_of field) named).0).0
 
-named-below : (slots : List Slot) (o : MaybeRival) → From (ranked_of (rivals_at 0 slots)) o
+named-below : (slots : List Slot) (o : Option Rival) → From (ranked_of (rivals_at 0 slots)) o
     → value_of (choice_reply o) ≤ length slots
 named-below slots None f = omega arith
 named-below slots (Some r) f =

@@ -1,5 +1,7 @@
 -- One rival after the other, the answer, and the margin.
 -- Assumes nothing.
+use Rattle.std.specs.Prelude.{Option, None, Some, Result, Err}
+use Rattle.base.specs.declared.types.Refusal.{Refusal}
 use Prim.Native.Nat.{ℕ, zero, suc, ◌+◌, ◌<◌, ◌≤◌}
 use mathlib.Core.Path.{◌≡◌, refl, ap, sym, ◌∙◌}
 use mathlib.Core.Bool.{Bool, true, false, not, cond, ◌&&◌, ◌||◌, and-true}
@@ -17,9 +19,6 @@ use Rattle.select.specs.Slim.{slim_of}
 use Rattle.choices.specs.Steps.{seated_of}
 use Rattle.rivalrows.specs.Rows.{rival_in, field_in, row_of}
 use Rattle.select.specs.declared.types.Rival.{Rival}
-use Rattle.select.specs.declared.types.MaybeRival.{MaybeRival}
-use Rattle.select.specs.declared.types.MaybeRival.TheVariants.{None, Some}
-use Rattle.select.specs.declared.types.Chosen.{Chosen}
 use Rattle.rules.specs.Step.{rival_of, rivals_at, is_margin, choice_reply}
 use Rattle.rules.specs.declared.types.Slot.{Slot}
 use Rattle.rules.specs.declared.types.Reply.{Reply}
@@ -102,7 +101,7 @@ rowing-end {l} {out} s h = (filling-end s.made h ∙ two (rivals_at 0 l), fillin
     two (r ∷ m) = ap (λ (z : List (List ℕ)). slot_row r ∷ z) (two m)
 
 -- the answer by what was picked
-reply-slot : (m : MaybeRival) → slot_reply (slot_of m) ≡ choice_reply m
+reply-slot : (m : Option Rival) → slot_reply (slot_of m) ≡ choice_reply m
 reply-slot (Some r) = refl
 reply-slot None = refl
 
@@ -125,13 +124,13 @@ unfolding seated_of
 seated-as slots margin = rw (rivals-placed 0 slots)
 
 -- the slot picked among the rows of the slots' rivals
-pub picked-as : {rows : List (List ℕ)} (slots : List Slot) (margin : Float) {k : Chosen}
+pub picked-as : {rows : List (List ℕ)} (slots : List Slot) (margin : Float) {k : Result ℕ Refusal}
     → (rows ≡ map row_of (map slim_of (rivals_at 0 slots))) × (field_in rows ≡ map slim_of (rivals_at 0 slots))
     → k ≡ seated_of (field_in rows) margin → k ≡ slot_of (picked_of (map slim_of (rivals_at 0 slots)) margin)
 picked-as slots margin e f = f ∙ ap (λ (m : List Rival). seated_of m margin) e.1 ∙ seated-as slots margin
 
 -- the answer where the margin is allowed
-pub chosen-margin : (slots : List Slot) (span : ℕ) {margin : Float} {k : Chosen} {r : Reply}
+pub chosen-margin : (slots : List Slot) (span : ℕ) {margin : Float} {k : Result ℕ Refusal} {r : Result Reply Refusal}
     → margin ≡ of_bits binary64 span
     → is_margin margin ≡ true → k ≡ slot_of (picked_of (rivals_at 0 slots) margin) → r ≡ slot_reply k
     → r ≡ chosen_of slots span
@@ -141,9 +140,9 @@ chosen-margin slots span {margin} {k} {r} e m f h =
     ∙ ap slot_reply f
     ∙ reply-slot (picked_of (rivals_at 0 slots) margin)
     ∙ sym
-    (ap (λ (t : Bool). cond t (choice_reply (picked_of (rivals_at 0 slots) margin)) (reply.Refused refusal.Margin)) m)
+    (ap (λ (t : Bool). cond t (choice_reply (picked_of (rivals_at 0 slots) margin)) (Err refusal.Margin)) m)
     ∙ ap
-    (λ (x : Float). cond (is_margin x) (choice_reply (picked_of (rivals_at 0 slots) x)) (reply.Refused refusal.Margin)) e
+    (λ (x : Float). cond (is_margin x) (choice_reply (picked_of (rivals_at 0 slots) x)) (Err refusal.Margin)) e
 
 -- above 1 and below infinity
 pub margin-is : (x : Float)

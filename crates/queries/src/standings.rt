@@ -3,7 +3,6 @@ ghost use Rattle.std.specs.Prelude.{◌≡◌, map, length};
 ghost use Rattle.standing.specs.Standing.{standing_of, slot_written, slot_out};
 ghost use Rattle.rows.specs.View.{path_in, slot_in};
 
-use crate::slots;
 use base::types::*;
 use ring::types::Ids;
 use rowmeasures::*;
@@ -19,38 +18,33 @@ use trips::*;
 pub fn told(p: &[[u64; 4]; ROWS]) -> Standing
     ensures { result ≡ standing_of (path_in p.now) }
 {
-    let m = ids(p);
-    let s = sizes(p);
-    let last = trip(p);
-    let least = min_rtt(p);
-    let base = base_rtt(p);
-    let quiet = quiet(p);
-    let answered = m.answered;
-    let proven = s.proven;
     Standing {
-        last: last,
-        least: least,
-        base: base,
-        quiet: quiet,
+        last: trip(p),
+        least: min_rtt(p),
+        base: base_rtt(p),
+        quiet: quiet(p),
         etx: etx(p),
-        answered: answered,
+        answered: ids(p).answered,
         misses: misses(p),
-        proven: proven,
+        proven: sizes(p).proven,
     }
 }
 
 // Writes the standing of a slot's path; 1 for a slot above 7, 2 for an empty one, then 16; a refusal writes nothing.
-pub fn standing(rec: &[[[u64; 4]; ROWS]; PATH_MAX_PER_PEER], slot: u8, out: &mut [u8]) -> Written
+pub fn standing(
+    rec: &[[[u64; 4]; ROWS]; PATH_MAX_PER_PEER],
+    slot: u8,
+    out: &mut [u8],
+) -> Result<usize, Refusal>
     ensures { (result ≡ slot_written (map slot_in rec.now) slot (length out.old))
         × (out.new ≡ slot_out (map slot_in rec.now) slot out.old) }
 {
-    slots(rec);
     if 7 < slot {
-        return Written::Refused(Refusal::Slot);
+        return Err(Refusal::Slot);
     }
     let i = slot as usize;
     if used(&rec[i]) {
         return standing::write(told(&rec[i]), out);
     }
-    Written::Refused(Refusal::Empty)
+    Err(Refusal::Empty)
 }

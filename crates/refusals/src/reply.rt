@@ -3,6 +3,7 @@ ghost use Rattle.std.specs.Prelude.{◌≡◌, false, ◌<◌, ◌^◌};
 ghost use Rattle.rules.specs.Event.{number_of, value_of};
 ghost use Rattle.refusals.specs.Refusals.{said_of, word_of, is_chosen};
 
+use base::types::Refusal;
 use rules::types::Reply;
 
 // An answer: its refusal number, 0 if accepted, and its value, 0 where there is none.
@@ -24,20 +25,20 @@ fn accepted(value: u64) -> Said
 
 // The number and the value of an answer. A value is below 2^32: by its type, or, of a choice, since a record has eight
 // slots.
-pub fn said_of(reply: Reply) -> Said
+pub fn said_of(reply: Result<Reply, Refusal>) -> Said
     ensures { (result ≡ said_of reply) × (is_chosen reply ≡ false → value_of reply < 2 ^ 32) }
 {
     match reply {
-        Reply::Id(id) => accepted(id as u64),
-        Reply::InTime => accepted(1),
-        Reply::Late => accepted(2),
-        Reply::Search => accepted(3),
-        Reply::Count(n) => accepted(n as u64),
-        Reply::Lost => accepted(1),
-        Reply::Waits => accepted(0),
-        Reply::Chosen(slot) => accepted(slot as u64),
-        Reply::Nothing => accepted(0),
-        Reply::Refused(why) => Said {
+        Ok(Reply::Id(id)) => accepted(id as u64),
+        Ok(Reply::InTime) => accepted(1),
+        Ok(Reply::Late) => accepted(2),
+        Ok(Reply::Search) => accepted(3),
+        Ok(Reply::Count(n)) => accepted(n as u64),
+        Ok(Reply::Lost) => accepted(1),
+        Ok(Reply::Waits) => accepted(0),
+        Ok(Reply::Chosen(slot)) => accepted(slot as u64),
+        Ok(Reply::Nothing) => accepted(0),
+        Err(why) => Said {
             number: why.number(),
             value: 0,
         },
@@ -45,7 +46,7 @@ pub fn said_of(reply: Reply) -> Said
 }
 
 // The refusal number of an answer.
-pub fn number_of(reply: Reply) -> u64
+pub fn number_of(reply: Result<Reply, Refusal>) -> u64
     ensures { result ≡ number_of reply }
 {
     let x = said_of(reply);
@@ -53,7 +54,7 @@ pub fn number_of(reply: Reply) -> u64
 }
 
 // The value of an answer.
-pub fn value_of(reply: Reply) -> u64
+pub fn value_of(reply: Result<Reply, Refusal>) -> u64
     ensures { result ≡ value_of reply }
 {
     let x = said_of(reply);
@@ -61,7 +62,7 @@ pub fn value_of(reply: Reply) -> u64
 }
 
 // Number and value in one word, as a processor hands it back in one register.
-pub fn word_of(reply: Reply) -> u64
+pub fn word_of(reply: Result<Reply, Refusal>) -> u64
     ensures { (result ≡ word_of reply) × (is_chosen reply ≡ false → value_of reply < 2 ^ 32) }
 {
     let x = said_of(reply);

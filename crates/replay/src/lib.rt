@@ -87,8 +87,5 @@ pub fn field_agrees(bytes: &[u8]) -> bool
 pub fn counted(equal: u64, agrees: bool) -> u64
     ensures { result ≡ counted_of equal agrees }
 {
-    if agrees {
-        return std::num::wrapping_add_u64(equal, 1);
-    }
-    equal
+    if agrees { equal.wrapping_add(1) } else { equal }
 }

@@ -1,14 +1,14 @@
 -- The ring stays closed up: the waiting probes at the front, free places behind them.
 -- Assumes nothing.
+use Rattle.std.specs.Prelude.{Option, None, Some}
 use Prim.Native.Nat.{ℕ, zero, suc, ◌-◌, ◌<◌}
 use mathlib.Core.Path.{◌≡◌, refl, sym, ap, ◌∙◌}
 use mathlib.Core.List.{List, [], ◌∷◌, ◌++◌}
 use mathlib.Core.Bool.{Bool, true, false}
 use native.Mathlib.Omega.{arith}
 use lib.ListN.{length, set, replicate, length-append, length-replicate, length-set}
-use Rattle.base.specs.Seq.{position, every}
-use Rattle.base.specs.declared.types.MaybeTime.{MaybeTime}
-use Rattle.base.specs.declared.types.MaybeTime.TheVariants.{None, Some}
+use Rattle.std.specs.List.{list_all}
+use Rattle.base.specs.Seq.{position}
 use Rattle.base.proofs.Cases.{on-flag, on-order}
 use Rattle.base.proofs.SeqLaws.{length-keep}
 use Rattle.base.proofs.BookLaws.{Holds, holds_kept, holds-packed, holds_more}
@@ -36,7 +36,7 @@ closed-long {l} c =
     ∙ rw (length-append, length-replicate) (omega (arith, c.fits))
 
 -- among used places no free one is found
-none_free : (w : List Sent) → every is_used w ≡ true → position is_free (w ++ []) ≡ length w
+none_free : (w : List Sent) → list_all is_used w ≡ true → position is_free (w ++ []) ≡ length w
 none_free [] e = refl
 none_free (s ∷ w) e =
     on-flag s.used
@@ -66,18 +66,18 @@ closed-out l slot h =
     omega (arith, length-keep is_used (set l slot no_sent))))
 
 -- the scan of `expire` changes no mark, and leaves free places
-module _ (p : Sent → Bool) (f : Sent → MaybeTime) (free : p no_sent ≡ false) where
-  scan-used : (w : List Sent) → every is_used w ≡ true → every is_used (scan_of p f w).ring ≡ true
+module _ (p : Sent → Bool) (f : Sent → Option ℕ) (free : p no_sent ≡ false) where
+  scan-used : (w : List Sent) → list_all is_used w ≡ true → list_all is_used (scan_of p f w).ring ≡ true
   scan-used [] e = refl
   scan-used (s ∷ w) e =
       on-flag s.used
       (λ q.
-      let m : every is_used w ≡ true = rw q at e in
+      let m : list_all is_used w ≡ true = rw q at e in
       on-flag (p s) (λ r. rw r (at_first (f s) s w q m (scan-used w m))) (λ r. rw (r, q) (scan-used w m)))
       (λ q. let y : true ≡ false = sym (rw q at e) in cc)
     where
-      at_first : (u : MaybeTime) (s : Sent) (w : List Sent) → s.used ≡ true → every is_used w ≡ true
-          → every is_used (scan_of p f w).ring ≡ true → every is_used (lapse_or u s w (scan_of p f w)).ring ≡ true
+      at_first : (u : Option ℕ) (s : Sent) (w : List Sent) → s.used ≡ true → list_all is_used w ≡ true
+          → list_all is_used (scan_of p f w).ring ≡ true → list_all is_used (lapse_or u s w (scan_of p f w)).ring ≡ true
       at_first None s w q m k = rw q m
       at_first (Some u) s w q m k = rw q k
 
@@ -93,7 +93,7 @@ module _ (p : Sent → Bool) (f : Sent → MaybeTime) (free : p no_sent ≡ fals
       (λ r. rw r (at_first (f s) (scan-front w m)))
       (λ r. rw r (ap (λ (l : List Sent). s ∷ l) (scan-front w m)))
     where
-      at_first : (u : MaybeTime)
+      at_first : (u : Option ℕ)
           → (scan_of p f (w ++ replicate m no_sent)).ring ≡ (scan_of p f w).ring ++ replicate m no_sent
           → (lapse_or u s (w ++ replicate m no_sent) (scan_of p f (w ++ replicate m no_sent))).ring
           ≡ (lapse_or u s w (scan_of p f w)).ring ++ replicate m no_sent
@@ -104,7 +104,7 @@ module _ (p : Sent → Bool) (f : Sent → MaybeTime) (free : p no_sent ≡ fals
   scan-long [] = refl
   scan-long (s ∷ l) = on-flag (p s) (λ r. rw r (at_first (f s) (scan-long l))) (λ r. rw r (ap suc (scan-long l)))
     where
-      at_first : (u : MaybeTime) → length (scan_of p f l).ring ≡ length l → length (lapse_or u s l (scan_of p f l)).ring ≡ suc (length l)
+      at_first : (u : Option ℕ) → length (scan_of p f l).ring ≡ length l → length (lapse_or u s l (scan_of p f l)).ring ≡ suc (length l)
       at_first None k = refl
       at_first (Some u) k = ap suc k
 

@@ -8,7 +8,7 @@ use native.Mathlib.Numerals.{add-one}
 use native.Mathlib.Omega.{arith}
 use lib.ListN.{length, get_or, take, drop, drop_of_length-le, length-append, length-drop}
 use lib.Seq.{drop-cons, take-suc, take_all, drop-append-le, drop-drop}
-use Rattle.base.specs.Seq.{keep}
+use Rattle.std.specs.List.{filter}
 use Rattle.base.proofs.SeqLaws.{keep_append}
 use Rattle.ring.specs.declared.types.Sent.{Sent}
 use Rattle.ring.specs.Ring.{is_used, waiting, remembered, swept}
@@ -34,7 +34,7 @@ module _ {late : List Sent} {m : ℕ} {ring : List Sent} {n : ℕ} where
   sweeping-start h k = record { long = h; some = k; upto = omega arith; same = k; done = sym (append-nil late) }
 
   module _ {out : List Sent} {i : ℕ} (d : Sent) (s : Sweeping late m ring n out i) (h : i < n) where
-    split : waiting (take (suc i) ring) ≡ waiting (take i ring) ++ keep is_used (get_or ring i d ∷ [])
+    split : waiting (take (suc i) ring) ≡ waiting (take i ring) ++ filter is_used (get_or ring i d ∷ [])
     split = let k : i < length ring = omega arith in rw (take-suc ring i d, keep_append)
 
     pub sweeping-skip : is_used (get_or ring i d) ≡ false → Sweeping late m ring n out (i + 1)

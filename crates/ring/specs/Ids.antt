@@ -1,17 +1,15 @@
 -- Identifiers (document 01, "Identifiers", and the marks since, answered and epoch of "Ring (8) and late list (4)").
-use Rattle.std.specs.Prelude.{ℕ, ◌+◌, ◌%◌, ◌^◌, min, Bool, true, not, cond, ◌&&◌}
+use Rattle.std.specs.Prelude.{ℕ, ◌+◌, ◌%◌, ◌^◌, min, Bool, true, not, cond, ◌&&◌, Option, None, Some}
 use Rattle.base.specs.Serial.{after_of}
-use Rattle.base.specs.declared.types.MaybeId.{MaybeId}
-use Rattle.base.specs.declared.types.MaybeId.TheVariants.{None, Some}
 use Rattle.ring.specs.declared.types.Ids.{Ids}
 
 -- the draw is used for the first identifier only
-abbrev pub taken_of : MaybeId → ℕ → ℕ
+abbrev pub taken_of : Option ℕ → ℕ → ℕ
 taken_of None draw = draw
 taken_of (Some id) draw = id
 
 -- each later one adds 1 modulo 2 ^ 32
-abbrev pub next_id_of : ℕ → MaybeId
+abbrev pub next_id_of : ℕ → Option ℕ
 next_id_of id = Some ((id + 1) % 2 ^ 32)
 
 -- the identifiers once a probe has taken id
@@ -19,12 +17,12 @@ abbrev pub next_ids : Ids → ℕ → Ids
 next_ids m id = record { next_id = next_id_of id; answered = m.answered; epoch = m.epoch; since = m.since }
 
 -- an identifier counts unless since is after it; answered and epoch are asked in the same way
-abbrev pub counts_of : MaybeId → ℕ → Bool
+abbrev pub counts_of : Option ℕ → ℕ → Bool
 counts_of None id = true
 counts_of (Some s) id = not (after_of 32 s id)
 
 -- `answered` moves only from none or to a later identifier
-abbrev pub newer : MaybeId → ℕ → ℕ
+abbrev pub newer : Option ℕ → ℕ → ℕ
 newer None id = id
 newer (Some a) id = cond (after_of 32 id a) id a
 

@@ -1,13 +1,11 @@
 -- Which probe lapses, and which are deferred on the way to it (document 01, "Ring (8) and late list (4)", `expire` and
 -- `fallen`).
-use Rattle.std.specs.Prelude.{ℕ, suc, List, [], ◌∷◌, Bool, false, cond, ◌&&◌, leb, ltb}
+use Rattle.std.specs.Prelude.{ℕ, suc, List, [], ◌∷◌, Bool, false, cond, ◌&&◌, leb, ltb, Option, None, Some}
 use Rattle.base.specs.Limits.{min_len}
 use Rattle.base.specs.Time.{deadline_of}
 use Rattle.ring.specs.Ids.{counts_of}
 use Rattle.ring.specs.declared.types.Sent.{Sent}
 use Rattle.ring.specs.declared.types.Ids.{Ids}
-use Rattle.base.specs.declared.types.MaybeTime.{MaybeTime}
-use Rattle.base.specs.declared.types.MaybeTime.TheVariants.{None, Some}
 use Rattle.ring.specs.declared.types.Scanned.{Scanned}
 
 -- due < now, or due = now unless overdue
@@ -20,7 +18,7 @@ is_passed now overdue s = cond s.used (passed_at now overdue s.due) false
 
 -- if the last data instant is above its sent one, and its cap deadline, deadline(sent, cap), hasn't passed, its due
 -- becomes that
-abbrev pub defer_of : MaybeTime → ℕ → ℕ → Bool → Sent → MaybeTime
+abbrev pub defer_of : Option ℕ → ℕ → ℕ → Bool → Sent → Option ℕ
 defer_of None cap now overdue s = None
 defer_of (Some t) cap now overdue s =
     cond (ltb s.at t)
@@ -36,13 +34,13 @@ abbrev pub behind : Sent → Scanned → Scanned
 behind s r = record { ring = s ∷ r.ring; slot = suc r.slot }
 
 -- the first entry of a list, which has passed: it lapses, or is deferred and the scan goes on behind it
-abbrev pub lapse_or : MaybeTime → Sent → List Sent → Scanned → Scanned
+abbrev pub lapse_or : Option ℕ → Sent → List Sent → Scanned → Scanned
 lapse_or None s ss r = record { ring = s ∷ ss; slot = 0 }
 lapse_or (Some u) s ss r = behind (with_due s u) r
 
 -- the entries as the scan leaves them, and the place of the one that lapses, or the length. A deferred entry has not
 -- passed any more, so that a scan that starts over comes to the entry behind it.
-abbrev pub scan_of : (Sent → Bool) → (Sent → MaybeTime) → List Sent → Scanned
+abbrev pub scan_of : (Sent → Bool) → (Sent → Option ℕ) → List Sent → Scanned
 scan_of p defer [] = record { ring = []; slot = 0 }
 scan_of p defer (s ∷ ss) = cond (p s) (lapse_or (defer s) s ss (scan_of p defer ss)) (behind s (scan_of p defer ss))
 

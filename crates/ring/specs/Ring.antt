@@ -1,11 +1,9 @@
 -- The places of the ring and of the late list (document 01, "Ring (8) and late list (4)"). A place that is not used is
 -- free.
-use Rattle.std.specs.Prelude.{ℕ, ◌-◌, ◌≤◌, ◌≡◌, List, [], ◌∷◌, ◌++◌, map, Bool, true, false, not, cond, length, replicate, drop, set, eqb}
-use Rattle.base.specs.Seq.{position, every, keep}
+use Rattle.std.specs.Prelude.{ℕ, ◌-◌, ◌≤◌, ◌≡◌, List, [], ◌∷◌, ◌++◌, map, Bool, true, false, not, cond, length, replicate, drop, set, eqb, Option, None}
+use Rattle.std.specs.List.{list_all, filter, position_from}
+use Rattle.base.specs.Seq.{position}
 use Rattle.base.specs.Least.{least_of}
-use Rattle.base.specs.declared.types.MaybeTime.{MaybeTime}
-use Rattle.base.specs.declared.types.MaybeId.{MaybeId}
-use Rattle.base.specs.declared.types.MaybeId.TheVariants.{None}
 use Rattle.ring.specs.Ids.{counts_of}
 use Rattle.ring.specs.declared.types.Sent.{Sent}
 use Rattle.ring.specs.declared.types.Ids.{Ids}
@@ -32,13 +30,17 @@ is_free s = not s.used
 abbrev pub first_free : List Sent → ℕ
 first_free l = position is_free l
 
+-- the same with none in place of the length: `place_some` and `place_none` of proofs/PlaceLaws.antt
+abbrev pub free_at : List Sent → Option ℕ
+free_at l = position_from is_free 0 l
+
 -- free, or its identifier counts
-abbrev pub fine_of : MaybeId → Sent → Bool
+abbrev pub fine_of : Option ℕ → Sent → Bool
 fine_of since s = cond s.used (counts_of since s.probe_id) true
 
 -- every waiting probe counts (an empty ring does)
-abbrev pub all_count : MaybeId → List Sent → Bool
-all_count since l = every (fine_of since) l
+abbrev pub all_count : Option ℕ → List Sent → Bool
+all_count since l = list_all (fine_of since) l
 
 -- if every waiting probe counts, `since` is dropped
 abbrev pub drop_since : Ids → List Sent → Ids
@@ -55,9 +57,13 @@ is_probe id s = cond s.used (eqb s.probe_id id) false
 abbrev pub found : ℕ → List Sent → ℕ
 found id l = position (is_probe id) l
 
+-- the same with none in place of the length
+abbrev pub found_at : ℕ → List Sent → Option ℕ
+found_at id l = position_from (is_probe id) 0 l
+
 -- the waiting probes, in the ring's order
 abbrev pub waiting : List Sent → List Sent
-waiting l = keep is_used l
+waiting l = filter is_used l
 
 -- the ring closes up in its order: n places, the waiting probes, then free ones
 abbrev pub packed : ℕ → List Sent → List Sent
@@ -86,5 +92,5 @@ unfoldable pub outstanding_of : List Sent → ℕ
 outstanding_of l = length (waiting l)
 
 -- the earliest due instant of the waiting probes, or none
-unfoldable pub earliest_due : List Sent → MaybeTime
+unfoldable pub earliest_due : List Sent → Option ℕ
 earliest_due l = least_of (map (λ s. s.due) (waiting l))

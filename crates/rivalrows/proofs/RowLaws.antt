@@ -80,56 +80,12 @@ pub row_made : (r : Rival) {w : List ℕ} → T (fits binary64 r.score) → T (f
 row_made r s t n e = (e, ap rival_in e ∙ row-says r s t n)
 
 -- a row from its numbers
-pub row-built : (r : Rival) {a b c d e f g h : ℕ} → a ≡ flag_of r.held → b ≡ flag_of r.scored → c ≡ etx_bits r.score
-    → d ≡ flag_of r.timed → e ≡ flag_of r.steadied → f ≡ etx_bits r.steady → g ≡ flag_of r.based → h ≡ marks_word r
-    → (a ∷ r.index ∷ b ∷ c ∷ d ∷ r.rtt ∷ e ∷ f ∷ g ∷ r.base ∷ r.tier ∷ h ∷ []) ≡ row_of r
+pub row-built : (r : Rival) {a b c d e f g h k : ℕ} → a ≡ flag_of r.held → b ≡ flag_of r.scored → c ≡ etx_bits r.score
+    → d ≡ flag_of r.timed → e ≡ flag_of r.steadied → f ≡ etx_bits r.steady → g ≡ flag_of r.based → k ≡ r.tier → h ≡ marks_word r
+    → (a ∷ r.index ∷ b ∷ c ∷ d ∷ r.rtt ∷ e ∷ f ∷ g ∷ r.base ∷ k ∷ h ∷ []) ≡ row_of r
 unfolding row_of
-row-built r p q s t u v x y =
-    λ i. p i ∷ r.index ∷ q i ∷ s i ∷ t i ∷ r.rtt ∷ u i ∷ v i ∷ x i ∷ r.base ∷ r.tier ∷ y i ∷ []
-
--- a rival from its parts
-pub rival-read : (w : List ℕ) {score steady : Float} {held scored steadied timed based preferred pinned fits : Bool}
-    {medium : Medium}
-    → score ≡ float_of (get_or w 3 0) → steady ≡ float_of (get_or w 7 0) → held ≡ bit_of (get_or w 0 0)
-    → scored ≡ bit_of (get_or w 2 0) → steadied ≡ bit_of (get_or w 6 0) → timed ≡ bit_of (get_or w 4 0)
-    → based ≡ bit_of (get_or w 8 0) → preferred ≡ bit_of (get_or w 11 0) → pinned ≡ bit_of (get_or w 11 0 / 2)
-    → fits ≡ bit_of (get_or w 11 0 / 4) → medium ≡ medium_of (get_or w 11 0 / 16)
-    → ◌≡◌ {A = Rival} (record {
-      score = score;
-      steady = steady;
-      rtt = get_or w 5 0;
-      base = get_or w 9 0;
-      index = get_or w 1 0;
-      tier = get_or w 10 0 % 256;
-      held = held;
-      scored = scored;
-      steadied = steadied;
-      timed = timed;
-      based = based;
-      preferred = preferred;
-      pinned = pinned;
-      fits = fits;
-      medium = medium;
-    }) (rival_in w)
-unfolding rival_in
-rival-read w a b c d e f g h j k l =
-    λ i. record {
-      score = a i;
-      steady = b i;
-      rtt = get_or w 5 0;
-      base = get_or w 9 0;
-      index = get_or w 1 0;
-      tier = get_or w 10 0 % 256;
-      held = c i;
-      scored = d i;
-      steadied = e i;
-      timed = f i;
-      based = g i;
-      preferred = h i;
-      pinned = j i;
-      fits = k i;
-      medium = l i;
-    }
+row-built r p q s t u v x z y =
+    λ i. p i ∷ r.index ∷ q i ∷ s i ∷ t i ∷ r.rtt ∷ u i ∷ v i ∷ x i ∷ r.base ∷ z i ∷ y i ∷ []
 
 -- a list of eight, written out
 pub eight : {A : Type 0} (l : List A) (d : A) → length l ≡ 8

@@ -4,7 +4,7 @@
 ghost use Rattle.std.specs.Prelude.{◌≡◌, map};
 ghost use Rattle.rivalrows.specs.Rows.{bit_of, rival_in, field_in, marks_word, row_of};
 
-use base::flag::flag;
+use select::media::{medium_bits, medium_of};
 use select::types::*;
 use total::{etx_bits, float_of};
 
@@ -19,11 +19,11 @@ pub fn bit(x: u64) -> bool
 }
 
 // The rival that a row says.
+#[tactic(auto, unfolding(crate::specs::Rows::rival_in))]
 pub fn rival_in(w: &[u64; ROW]) -> Rival
     ensures { result ≡ rival_in w.now }
 {
     let marks = w[11];
-    let medium = select::media::medium_of(marks / 16);
     Rival {
         score: float_of(w[3]),
         steady: float_of(w[7]),
@@ -39,7 +39,7 @@ pub fn rival_in(w: &[u64; ROW]) -> Rival
         preferred: bit(marks),
         pinned: bit(marks / 2),
         fits: bit(marks / 4),
-        medium: medium,
+        medium: medium_of(marks / 16),
     }
 }
 
@@ -47,8 +47,10 @@ pub fn rival_in(w: &[u64; ROW]) -> Rival
 fn marks_of(r: Rival) -> u64
     ensures { result ≡ marks_word r }
 {
-    let m = r.medium;
-    flag(r.preferred) + 2 * flag(r.pinned) + 4 * flag(r.fits) + 16 * select::media::medium_bits(m)
+    u64::from(r.preferred)
+        + 2 * u64::from(r.pinned)
+        + 4 * u64::from(r.fits)
+        + 16 * medium_bits(r.medium)
 }
 
 // The row that says a rival.
@@ -56,17 +58,17 @@ pub fn row_of(r: Rival) -> [u64; ROW]
     ensures { (result ≡ row_of r) × (rival_in result ≡ r) }
 {
     [
-        flag(r.held),
+        u64::from(r.held),
         r.index as u64,
-        flag(r.scored),
+        u64::from(r.scored),
         etx_bits(r.score),
-        flag(r.timed),
+        u64::from(r.timed),
         r.rtt,
-        flag(r.steadied),
+        u64::from(r.steadied),
         etx_bits(r.steady),
-        flag(r.based),
+        u64::from(r.based),
         r.base,
-        r.tier as u64,
+        u64::from(r.tier),
         marks_of(r),
     ]
 }

@@ -1,5 +1,7 @@
 -- What the encoder's rows become where one part of the path changes: the part's own rows, and no other.
 -- Assumes nothing.
+use Rattle.stop.specs.declared.types.Stop.{Stop}
+use Rattle.std.specs.Prelude.{Option, unwrap_or}
 use Prim.Native.Nat.{ℕ, ◌+◌, ◌/◌, ◌<◌}
 use mathlib.Core.Path.{◌≡◌, refl, ap, sym, ◌∙◌}
 use mathlib.Core.Bool.{true, false}
@@ -9,8 +11,6 @@ use native.Mathlib.Nat.{zero-add, suc-add}
 use lib.Ieee.{Float}
 use lib.ListN.{length, get_or, set, length-map, get_or-append}
 use lib.Seq.{set-append_left}
-use Rattle.base.specs.declared.types.MaybeLen.{MaybeLen}
-use Rattle.base.specs.declared.types.MaybeTime.{MaybeTime}
 use Rattle.ring.specs.declared.types.Sent.{Sent}
 use Rattle.ring.specs.declared.types.Ids.{Ids}
 use Rattle.rtt.specs.declared.types.Sample.{Sample}
@@ -18,12 +18,11 @@ use Rattle.rtt.specs.declared.types.Span.{Span}
 use Rattle.seek.specs.declared.types.Ladder.{Ladder}
 use Rattle.seek.specs.declared.types.Seek.{Seek}
 use Rattle.seek.specs.declared.types.Sizes.{Sizes}
-use Rattle.stop.specs.declared.types.MaybeStop.{MaybeStop}
 use Rattle.live.specs.Path.{with_ring, with_late, with_ids, with_sizes, with_traffic, with_ladder, with_misses, with_etx}
 use Rattle.live.specs.declared.types.Liveness.{Liveness}
 use Rattle.live.specs.declared.types.Traffic.{Traffic}
 use Rattle.rules.specs.declared.types.Slot.{Slot}
-use Rattle.base.specs.Missing.{time_tag, time_or_zero}
+use Rattle.base.specs.Missing.{tag}
 use Rattle.total.specs.Patterns.{etx_bits}
 use Rattle.cells.specs.Cells.{word, with_word, with_half, with_bit}
 use Rattle.cells.specs.Code.{len_word, sent_row, ids_row, clocks_row, stop_row, until_word, trips_row, search_word, search_row, ladder_word}
@@ -196,17 +195,17 @@ module _ (s : Slot) (n : Long s.path) where
   unfolding slot_rows
   code-ids m = at-middle rest 0 (ids_row m)
 
-  pub code-quiet : (m : MaybeTime)
-      → set (slot_rows s) clocks_at (with_half (row (slot_rows s) clocks_at) false (time_tag m) (time_or_zero m))
+  pub code-quiet : (m : Option ℕ)
+      → set (slot_rows s) clocks_at (with_half (row (slot_rows s) clocks_at) false (tag m) (unwrap_or m 0))
       ≡ slot_rows (on_path s (with_quiet s.path m))
   unfolding slot_rows clocks_row
-  code-quiet m = store-one 1 (λ r. with_half r false (time_tag m) (time_or_zero m))
+  code-quiet m = store-one 1 (λ r. with_half r false (tag m) (unwrap_or m 0))
 
-  pub code-trip : (m : MaybeTime)
-      → set (slot_rows s) trips_at (with_half (row (slot_rows s) trips_at) true (time_tag m) (time_or_zero m))
+  pub code-trip : (m : Option ℕ)
+      → set (slot_rows s) trips_at (with_half (row (slot_rows s) trips_at) true (tag m) (unwrap_or m 0))
       ≡ slot_rows (on_path s (with_trip s.path m))
   unfolding slot_rows trips_row
-  code-trip m = store-one 3 (λ r. with_half r true (time_tag m) (time_or_zero m))
+  code-trip m = store-one 3 (λ r. with_half r true (tag m) (unwrap_or m 0))
 
   pub code-etx : (x : Float)
       → set (slot_rows s) trips_at (with_word (row (slot_rows s) trips_at) 1 (etx_bits x)) ≡ slot_rows (on_path s (with_etx s.path x))
@@ -218,7 +217,7 @@ module _ (s : Slot) (n : Long s.path) where
   unfolding slot_rows search_row
   code-ladder l = store-one 4 (λ r. with_word r 3 (ladder_word l))
 
-  pub code-proven : (m : MaybeLen)
+  pub code-proven : (m : Option ℕ)
       → set (slot_rows s) search_at (with_word (row (slot_rows s) search_at) 2 (len_word m)) ≡ slot_rows (on_path s (with_proven s.path m))
   unfolding slot_rows search_row
   code-proven m = store-one 4 (λ r. with_word r 2 (len_word m))
@@ -230,27 +229,27 @@ module _ (s : Slot) (n : Long s.path) where
 
   pub code-sizes : (x : Sizes)
       → set
-      (set (slot_rows s) clocks_at (with_half (row (slot_rows s) clocks_at) true (time_tag x.seek.at) (time_or_zero x.seek.at)))
+      (set (slot_rows s) clocks_at (with_half (row (slot_rows s) clocks_at) true (tag x.seek.at) (unwrap_or x.seek.at 0)))
       search_at
       (with_word (with_half (row (slot_rows s) search_at) false (search_word x.seek) x.seek.lost) 2 (len_word x.proven))
       ≡ slot_rows (on_path s (with_sizes s.path x))
   unfolding slot_rows clocks_row search_row
   code-sizes x =
-      store_two 1 4 (λ r. with_half r true (time_tag x.seek.at) (time_or_zero x.seek.at))
+      store_two 1 4 (λ r. with_half r true (tag x.seek.at) (unwrap_or x.seek.at 0))
       (λ r. with_word (with_half r false (search_word x.seek) x.seek.lost) 2 (len_word x.proven))
 
   pub code-seek : (x : Seek)
       → set
-      (set (slot_rows s) clocks_at (with_half (row (slot_rows s) clocks_at) true (time_tag x.at) (time_or_zero x.at)))
+      (set (slot_rows s) clocks_at (with_half (row (slot_rows s) clocks_at) true (tag x.at) (unwrap_or x.at 0)))
       search_at
       (with_half (row (slot_rows s) search_at) false (search_word x) x.lost)
       ≡ slot_rows (on_path s (with_seek_in s.path x))
   unfolding slot_rows clocks_row search_row
   code-seek x =
-      store_two 1 4 (λ r. with_half r true (time_tag x.at) (time_or_zero x.at))
+      store_two 1 4 (λ r. with_half r true (tag x.at) (unwrap_or x.at 0))
       (λ r. with_half r false (search_word x) x.lost)
 
-  pub code-stop : (m : MaybeStop)
+  pub code-stop : (m : Option Stop)
       → set (set (slot_rows s) stop_at (stop_row m)) trips_at (with_word (row (slot_rows s) trips_at) 0 (until_word m))
       ≡ slot_rows (on_path s (with_stop s.path m))
   unfolding slot_rows trips_row

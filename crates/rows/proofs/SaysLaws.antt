@@ -1,5 +1,8 @@
 -- What a store leaves, of each part; and stores one after the other.
 -- Assumes nothing.
+use Rattle.stop.specs.declared.types.Stop.{Stop}
+use Rattle.std.specs.Prelude.{Option, None, Result, unwrap_or}
+use Rattle.base.specs.declared.types.Refusal.{Refusal}
 use Prim.Native.Nat.{ℕ, ◌+◌, ◌/◌, ◌%◌, ◌^◌, ◌<◌, ◌≤◌}
 use mathlib.Core.Path.{◌≡◌, refl, ap, sym, ◌∙◌, subst}
 use mathlib.Core.Bool.{Bool, true, false}
@@ -11,10 +14,6 @@ use lib.Ieee.{Float}
 use lib.ListN.{length, set, get_or, length-set}
 use lib.Seq.{set_out, set-get_or}
 use Rattle.base.proofs.Cases.{never}
-use Rattle.base.specs.declared.types.MaybeId.{MaybeId}
-use Rattle.base.specs.declared.types.MaybeLen.{MaybeLen}
-use Rattle.base.specs.declared.types.MaybeLen.TheVariants as len
-use Rattle.base.specs.declared.types.MaybeTime.{MaybeTime}
 use Rattle.ring.specs.Ring.{no_sent}
 use Rattle.ring.specs.declared.types.Sent.{Sent}
 use Rattle.ring.specs.declared.types.Ids.{Ids}
@@ -23,7 +22,6 @@ use Rattle.rtt.specs.declared.types.Span.{Span}
 use Rattle.seek.specs.declared.types.Ladder.{Ladder}
 use Rattle.seek.specs.declared.types.Seek.{Seek}
 use Rattle.seek.specs.declared.types.Sizes.{Sizes}
-use Rattle.stop.specs.declared.types.MaybeStop.{MaybeStop}
 use Rattle.live.specs.Path.{with_ring, with_late, with_ids, with_sizes, with_traffic, with_ladder, with_misses, with_etx}
 use Rattle.live.specs.declared.types.Liveness.{Liveness}
 use Rattle.live.specs.declared.types.Traffic.{Traffic}
@@ -31,7 +29,7 @@ use Rattle.rules.specs.declared.types.Label.{Label}
 use Rattle.rules.specs.declared.types.Reply.{Reply}
 use Rattle.rules.specs.declared.types.Turn.{Turn}
 use Rattle.rules.specs.Rules.{turn}
-use Rattle.base.specs.Missing.{time_tag, time_or_zero}
+use Rattle.base.specs.Missing.{tag}
 use Rattle.total.specs.Patterns.{etx_bits}
 use Rattle.cells.specs.Cells.{sent_in, ids_in, sizes_in, ladder_in, traffic_in, misses_in, etx_in, span_in, label_in, used_in, word, id_in}
 use Rattle.cells.specs.Cells.{length_in, with_word, with_half, with_bit, with_id}
@@ -66,7 +64,7 @@ pub says-as : {a b : List (List ℕ)} {q r : Liveness} → Says a b q → q ≡ 
 says-as s e = record { path = s.path ∙ e; marks = s.marks; coded = s.coded }
 
 -- the identifiers m stored by the one of them that changed
-pub says-after : {a b : List (List ℕ)} {m o : Ids} (k : ℕ) (x : Ids → MaybeId) → m ≡ o → with_id (path_in a).ids k (x o) ≡ o
+pub says-after : {a b : List (List ℕ)} {m o : Ids} (k : ℕ) (x : Ids → Option ℕ) → m ≡ o → with_id (path_in a).ids k (x o) ≡ o
     → Says a b (with_ids (path_in a) (with_id (path_in a).ids k (x m))) → Says a b (with_ids (path_in a) m)
 says-after {a} k x e f s =
     says-as s
@@ -74,7 +72,7 @@ says-after {a} k x e f s =
     ∙ ap (λ (z : Ids). with_ids (path_in a) z) (f ∙ sym e))
 
 -- a path stored, and an answer that is none of the refusals
-pub turns-by : {a b : List (List ℕ)} {q : Liveness} {x y : Reply} → Says a b q → x ≡ y → is_refused x ≡ false
+pub turns-by : {a b : List (List ℕ)} {q : Liveness} {x y : Result Reply Refusal} → Says a b q → x ≡ y → is_refused x ≡ false
     → Turns a b x (turn (slot_in a) q y)
 turns-by {a} {b} {q} {x} {y} s e f =
     record {
@@ -85,7 +83,7 @@ turns-by {a} {b} {q} {x} {y} s e f =
     }
 
 -- nothing stored
-pub turns-none : {a : List (List ℕ)} {x y : Reply} {q : Liveness} → x ≡ y → path_in a ≡ q → Turns a a x (turn (slot_in a) q y)
+pub turns-none : {a : List (List ℕ)} {x y : Result Reply Refusal} {q : Liveness} → x ≡ y → path_in a ≡ q → Turns a a x (turn (slot_in a) q y)
 turns-none {a} {x} {y} {q} e f =
     record {
       answer = e;
@@ -95,7 +93,7 @@ turns-none {a} {x} {y} {q} e f =
     }
 
 -- the turn by another name
-pub turns_as : {a b : List (List ℕ)} {x : Reply} {t u : Turn} → Turns a b x t → t ≡ u → Turns a b x u
+pub turns_as : {a b : List (List ℕ)} {x : Result Reply Refusal} {t u : Turn} → Turns a b x t → t ≡ u → Turns a b x u
 turns_as s e =
     record {
       answer = s.answer ∙ ap (λ (z : Turn). z.reply) e;
@@ -224,21 +222,21 @@ module _ (p : List (List ℕ)) (n : length p ≡ row_count) where
   long = long-rows p n
 
   -- the silence clock stored in its words
-  pub put-quiet : {m : MaybeTime} {a b : ℕ} {r : List ℕ} → a ≡ time_tag m → b ≡ time_or_zero m
+  pub put-quiet : {m : Option ℕ} {a b : ℕ} {r : List ℕ} → a ≡ tag m → b ≡ unwrap_or m 0
       → r ≡ with_half (row p clocks_at) false a b → Says p (set p clocks_at r) (with_quiet (path_in p) m)
   put-quiet {m} e f g =
       into clocks_at (with_quiet (path_in p) m) (g ∙ (λ j. with_half (row p clocks_at) false (e j) (f j)))
-      (kept (λ x. set x clocks_at (with_half (row x clocks_at) false (time_tag m) (time_or_zero m))) (with_quiet (path_in p) m)
-      (view.view-quiet p n (time_tag m) (time_or_zero m) ∙ ap (λ (x : MaybeTime). with_quiet (path_in p) x) (instant-says m))
+      (kept (λ x. set x clocks_at (with_half (row x clocks_at) false (tag m) (unwrap_or m 0))) (with_quiet (path_in p) m)
+      (view.view-quiet p n (tag m) (unwrap_or m 0) ∙ ap (λ (x : Option ℕ). with_quiet (path_in p) x) (instant-says m))
       (off clocks_at _ refl) (code.code-quiet (slot_in p) long m))
 
   -- the latest round trip
-  pub put-trip : {m : MaybeTime} {a b : ℕ} {r : List ℕ} → a ≡ time_tag m → b ≡ time_or_zero m
+  pub put-trip : {m : Option ℕ} {a b : ℕ} {r : List ℕ} → a ≡ tag m → b ≡ unwrap_or m 0
       → r ≡ with_half (row p trips_at) true a b → Says p (set p trips_at r) (with_trip (path_in p) m)
   put-trip {m} e f g =
       into trips_at (with_trip (path_in p) m) (g ∙ (λ j. with_half (row p trips_at) true (e j) (f j)))
-      (kept (λ x. set x trips_at (with_half (row x trips_at) true (time_tag m) (time_or_zero m))) (with_trip (path_in p) m)
-      (view.view-trip p n (time_tag m) (time_or_zero m) ∙ ap (λ (x : MaybeTime). with_trip (path_in p) x) (instant-says m))
+      (kept (λ x. set x trips_at (with_half (row x trips_at) true (tag m) (unwrap_or m 0))) (with_trip (path_in p) m)
+      (view.view-trip p n (tag m) (unwrap_or m 0) ∙ ap (λ (x : Option ℕ). with_trip (path_in p) x) (instant-says m))
       (off trips_at _ refl) (code.code-trip (slot_in p) long m))
 
   -- the ETX
@@ -260,12 +258,12 @@ module _ (p : List (List ℕ)) (n : length p ≡ row_count) where
       (off search_at _ refl) (code.code-ladder (slot_in p) long l))
 
   -- the proven size
-  pub put-proven : {m : MaybeLen} {w : ℕ} {r : List ℕ} → (w ≡ len_word m) × (length_in w ≡ m) × (w ≤ 65536)
+  pub put-proven : {m : Option ℕ} {w : ℕ} {r : List ℕ} → (w ≡ len_word m) × (length_in w ≡ m) × (w ≤ 65536)
       → r ≡ with_word (row p search_at) 2 w → Says p (set p search_at r) (with_proven (path_in p) m)
   put-proven {m} {w} e f =
       into search_at (with_proven (path_in p) m) (f ∙ ap (λ (y : ℕ). with_word (row p search_at) 2 y) e.0)
       (kept (λ y. set y search_at (with_word (row y search_at) 2 (len_word m))) (with_proven (path_in p) m)
-      (view.view-proven p n (len_word m) ∙ ap (λ (y : MaybeLen). with_proven (path_in p) y) (ap length_in (sym e.0) ∙ e.1))
+      (view.view-proven p n (len_word m) ∙ ap (λ (y : Option ℕ). with_proven (path_in p) y) (ap length_in (sym e.0) ∙ e.1))
       (off search_at _ refl) (code.code-proven (slot_in p) long m))
 
   -- the misses
@@ -278,7 +276,7 @@ module _ (p : List (List ℕ)) (n : length p ≡ row_count) where
       (marks-row (row_same p marks_at (with_word (row p marks_at) 3 m) (omega arith))) (code.code-misses (slot_in p) long m))
 
   -- the sizes
-  pub put-sizes : {s : Sizes} {a b c d e : ℕ} {u v r : List ℕ} → a ≡ time_tag s.seek.at → b ≡ time_or_zero s.seek.at
+  pub put-sizes : {s : Sizes} {a b c d e : ℕ} {u v r : List ℕ} → a ≡ tag s.seek.at → b ≡ unwrap_or s.seek.at 0
       → (c ≡ search_word s.seek) × (c % 2 ^ 32 ≡ s.seek.probe_id) × (c / 2 ^ 32 % 65536 ≡ s.seek.len)
       → (d ≡ s.seek.lost) × (d < 65536) → (e ≡ len_word s.proven) × (length_in e ≡ s.proven) × (e ≤ 65536)
       → u ≡ with_half (row p clocks_at) true a b → v ≡ with_half (row p search_at) false c d → r ≡ with_word v 2 e
@@ -288,42 +286,42 @@ module _ (p : List (List ℕ)) (n : length p ≡ row_count) where
       (x ∙ (λ t. with_half (row p clocks_at) true (i t) (j t)))
       (z ∙ (λ t. with_word (y t) 2 e) ∙ (λ t. with_word (with_half (row p search_at) false (k.0 t) (l.0 t)) 2 (m.0 t)))
       (kept
-      (λ q. set (set q clocks_at (with_half (row q clocks_at) true (time_tag s.seek.at) (time_or_zero s.seek.at))) search_at
+      (λ q. set (set q clocks_at (with_half (row q clocks_at) true (tag s.seek.at) (unwrap_or s.seek.at 0))) search_at
       (with_word (with_half (row q search_at) false (search_word s.seek) s.seek.lost) 2 (len_word s.proven)))
       (with_sizes (path_in p) s)
       (view.view-sizes p n _ _ _ _ _
       ∙ ap (λ (q : Sizes). with_sizes (path_in p) q)
-      ((λ t. sizes_in (time_tag s.seek.at) (time_or_zero s.seek.at) (sym k.0 t) (sym l.0 t) (sym m.0 t))
+      ((λ t. sizes_in (tag s.seek.at) (unwrap_or s.seek.at 0) (sym k.0 t) (sym l.0 t) (sym m.0 t))
       ∙ sizes-same s c d e k.1 k.2 l m.1))
       (off-two clocks_at search_at _ _ refl refl) (code.code-sizes (slot_in p) long s))
 
   -- the search
-  pub put-seek : {s : Seek} {a b c d : ℕ} {u r : List ℕ} → a ≡ time_tag s.at → b ≡ time_or_zero s.at
+  pub put-seek : {s : Seek} {a b c d : ℕ} {u r : List ℕ} → a ≡ tag s.at → b ≡ unwrap_or s.at 0
       → (c ≡ search_word s) × (c % 2 ^ 32 ≡ s.probe_id) × (c / 2 ^ 32 % 65536 ≡ s.len)
       → (d ≡ s.lost) × (d < 65536) → u ≡ with_half (row p clocks_at) true a b → r ≡ with_half (row p search_at) false c d
       → Says p (set (set p clocks_at u) search_at r) (with_seek_in (path_in p) s)
   put-seek {s} {a} {b} {c} {d} {u} {r} i j k l x y =
-      let z : Sizes = record { seek = s; proven = len.None } in
+      let z : Sizes = record { seek = s; proven = None } in
       into-two clocks_at search_at (with_seek_in (path_in p) s)
       (x ∙ (λ t. with_half (row p clocks_at) true (i t) (j t)))
       (y ∙ (λ t. with_half (row p search_at) false (k.0 t) (l.0 t)))
       (kept
-      (λ q. set (set q clocks_at (with_half (row q clocks_at) true (time_tag s.at) (time_or_zero s.at))) search_at
+      (λ q. set (set q clocks_at (with_half (row q clocks_at) true (tag s.at) (unwrap_or s.at 0))) search_at
       (with_half (row q search_at) false (search_word s) s.lost))
       (with_seek_in (path_in p) s)
       (view.view-seek p n _ _ _ _
       ∙ ap (λ (q : Sizes). with_seek_in (path_in p) q.seek)
-      ((λ t. sizes_in (time_tag s.at) (time_or_zero s.at) (sym k.0 t) (sym l.0 t) 0)
+      ((λ t. sizes_in (tag s.at) (unwrap_or s.at 0) (sym k.0 t) (sym l.0 t) 0)
       ∙ sizes-same z c d 0 k.1 k.2 l refl))
       (off-two clocks_at search_at _ _ refl refl) (code.code-seek (slot_in p) long s))
 
   -- the stop
-  pub put-stop : {m : MaybeStop} {w : ℕ} {a r : List ℕ} → a ≡ stop_row m → w ≡ until_word m → r ≡ with_word (row p trips_at) 0 w
+  pub put-stop : {m : Option Stop} {w : ℕ} {a r : List ℕ} → a ≡ stop_row m → w ≡ until_word m → r ≡ with_word (row p trips_at) 0 w
       → Says p (set (set p stop_at a) trips_at r) (with_stop (path_in p) m)
   put-stop {m} e f g =
       into-two stop_at trips_at (with_stop (path_in p) m) e (g ∙ ap (λ (y : ℕ). with_word (row p trips_at) 0 y) f)
       (kept (λ q. set (set q stop_at (stop_row m)) trips_at (with_word (row q trips_at) 0 (until_word m))) (with_stop (path_in p) m)
-      (view.view-stop p n (stop_row m) (until_word m) ∙ ap (λ (y : MaybeStop). with_stop (path_in p) y) (stop-says m))
+      (view.view-stop p n (stop_row m) (until_word m) ∙ ap (λ (y : Option Stop). with_stop (path_in p) y) (stop-says m))
       (off-two stop_at trips_at _ _ refl refl) (code.code-stop (slot_in p) long m))
 
   -- the traffic
@@ -341,7 +339,7 @@ module _ (p : List (List ℕ)) (n : length p ≡ row_count) where
       (marks-row (row_same q marks_at v (omega (arith, length-set p arrivals_at (arrivals_row t))))) (code.code-traffic (slot_in p) long t))
 
   -- one of the identifiers stored
-  pub says-id : (k : ℕ) {w : ℕ} {m : MaybeId} {r : List ℕ} → (w ≡ id_word m) × (id_in w ≡ m) → r ≡ with_word (row p ids_at) k w
+  pub says-id : (k : ℕ) {w : ℕ} {m : Option ℕ} {r : List ℕ} → (w ≡ id_word m) × (id_in w ≡ m) → r ≡ with_word (row p ids_at) k w
       → Says p (set p ids_at r) (with_ids (path_in p) (with_id (path_in p).ids k m))
   unfolding path_in
   says-id k {w} {m} {r} e f =

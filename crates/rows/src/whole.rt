@@ -16,27 +16,22 @@ use select::types::*;
 pub fn used(p: &[[u64; 4]; ROWS]) -> bool
     ensures { result ≡ (slot_in p.now).used }
 {
-    let t = p[MARKS_AT];
-    used_in(t[2])
+    used_in(p[MARKS_AT][2])
 }
 
 // What the slot's open said.
 pub fn label(p: &[[u64; 4]; ROWS]) -> Label
     ensures { result ≡ (slot_in p.now).label }
 {
-    let t = p[MARKS_AT];
-    label_in(t[2])
+    label_in(p[MARKS_AT][2])
 }
 
 // Every row 0.
 fn wipe(p: &mut [[u64; 4]; ROWS])
     ensures { p.new ≡ empty_rows }
 {
-    rows(p);
-    let mut i: usize = 0;
-    while i < ROWS {
-        p[i] = [0, 0, 0, 0];
-        i += 1;
+    for i in 0..ROWS {
+        p[i] = [0; 4];
     }
 }
 
@@ -46,16 +41,13 @@ pub fn set_new(p: &mut [[u64; 4]; ROWS], used: bool, label: Label)
         × (slot_in p.new ≡ record { path = new_liveness; label = label; used = used }) }
 {
     wipe(p);
-    let etx = etx_word(1.0);
-    let marks = label_word(used, label);
-    p[TRIPS_AT] = [0, etx, 0, 0];
-    p[MARKS_AT] = [0, 0, marks, 0];
+    p[TRIPS_AT] = [0, etx_word(1.0), 0, 0];
+    p[MARKS_AT] = [0, 0, label_word(used, label), 0];
 }
 
 // Stores an empty slot.
 pub fn set_empty(p: &mut [[u64; 4]; ROWS])
     ensures { (p.new ≡ slot_rows empty_slot) × (slot_in p.new ≡ empty_slot) }
 {
-    let label = label_in(0);
-    set_new(p, false, label);
+    set_new(p, false, label_in(0));
 }

@@ -2,6 +2,7 @@
 -- last is x, and the least of the window and the least over the horizon are there and at most x. For a later reader of
 -- a path's standing.
 -- Assumes nothing.
+use Rattle.std.specs.Prelude.{Some}
 use Prim.Native.Nat.{ℕ, suc, ◌<◌, ◌≤◌}
 use mathlib.Core.Path.{◌≡◌, refl}
 use mathlib.Core.Logic.{inl, inr}
@@ -9,8 +10,7 @@ use mathlib.Core.List.{List, ◌∷◌, ◌++◌, map}
 use mathlib.Core.Bool.{Bool, true}
 use native.Mathlib.Omega.{arith}
 use lib.ListN.{length, get_or, set, take, drop, length-map, length-set}
-use Rattle.base.specs.Seq.{keep}
-use Rattle.base.specs.declared.types.MaybeTime.TheVariants.{Some}
+use Rattle.std.specs.List.{filter}
 use Rattle.base.proofs.Cases.{on-flag, on-order, never}
 use Rattle.base.proofs.ScanLaws.{map-append, keep-set}
 use Rattle.base.proofs.FirstLaws.{by-least}
@@ -39,9 +39,9 @@ least_under a b x y h = go (least-there (a ++ (y ∷ b)) y there)
 
 -- the same, where the one was stored at a place
 module _ {A : Type 0} (held : A → Bool) (g : A → ℕ) where
-  stored-under : (l : List A) (i : ℕ) (s : A) (x : ℕ) → i < length l → held s ≡ true → g s ≤ x → Under x (least_of (map g (keep held (set l i s))))
+  stored-under : (l : List A) (i : ℕ) (s : A) (x : ℕ) → i < length l → held s ≡ true → g s ≤ x → Under x (least_of (map g (filter held (set l i s))))
   stored-under l i s x h e k =
-      rw (keep-set held l i s h e, map-append) (least_under (map g (keep held (take i l))) (map g (keep held (drop (suc i) l))) x (g s) k)
+      rw (keep-set held l i s h e, map-append) (least_under (map g (filter held (take i l))) (map g (filter held (drop (suc i) l))) x (g s) k)
 
 -- ---- the window's least and the horizon's
 

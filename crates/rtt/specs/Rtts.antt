@@ -1,7 +1,6 @@
 -- What a path has measured, and what one more round trip makes of it (document 01, "RTT, ETX, score", the rule of
 -- `sample`).
-use Rattle.std.specs.Prelude.{ℕ, replicate}
-use Rattle.base.specs.declared.types.MaybeTime.TheVariants.{None, Some}
+use Rattle.std.specs.Prelude.{ℕ, replicate, None, Some}
 use Rattle.rtt.specs.Samples.{max_samples, no_sample, with_sample}
 use Rattle.rtt.specs.Spans.{max_spans, no_span, span_of}
 use Rattle.rtt.specs.declared.types.Rtts.{Rtts}

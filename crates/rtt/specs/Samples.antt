@@ -1,10 +1,9 @@
 -- The samples of the window (document 01, "RTT, ETX, score": "`sample` drops samples older than the window, then fills
 -- the first gap, else replaces the oldest (first of equals) of 32").
-use Rattle.std.specs.Prelude.{ℕ, List, map, Bool, true, false, cond, ◌&&◌, ltb, length, set}
-use Rattle.base.specs.Seq.{keep}
+use Rattle.std.specs.Prelude.{ℕ, List, map, Bool, true, false, cond, ◌&&◌, ltb, length, set, Option}
+use Rattle.std.specs.List.{filter}
 use Rattle.base.specs.Marked.{place, first_leader}
 use Rattle.base.specs.Time.{elapsed_of}
-use Rattle.base.specs.declared.types.MaybeTime.{MaybeTime}
 use Rattle.base.specs.Least.{least_of, largest_of}
 use Rattle.rtt.specs.declared.types.Sample.{Sample}
 
@@ -58,16 +57,16 @@ with_sample now x window l = put_sample now x (kept_samples now window l)
 
 -- the round trips of the window
 abbrev pub round_trips : List Sample → List ℕ
-round_trips l = map (λ s. s.rtt) (keep is_sample l)
+round_trips l = map (λ s. s.rtt) (filter is_sample l)
 
 -- the least round trip among the window's samples
-unfoldable pub min_rtt : List Sample → MaybeTime
+unfoldable pub min_rtt : List Sample → Option ℕ
 min_rtt l = least_of (round_trips l)
 
 -- the largest round trip among the window's samples
-unfoldable pub max_rtt : List Sample → MaybeTime
+unfoldable pub max_rtt : List Sample → Option ℕ
 max_rtt l = largest_of (round_trips l)
 
 -- how many samples the window holds
 unfoldable pub samples_of : List Sample → ℕ
-samples_of l = length (keep is_sample l)
+samples_of l = length (filter is_sample l)

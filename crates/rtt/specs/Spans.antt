@@ -1,11 +1,10 @@
 -- The spans of the horizon (document 01, "RTT, ETX, score": "Spans with now - to > horizon are dropped; then the sample
 -- joins the newest of 8 (last of equals) while now - from < horizon/6, rounded down: to becomes now, the RTT the
 -- smaller. Else a new span takes the first gap or the oldest's place, as above"). A span's age is its `from`.
-use Rattle.std.specs.Prelude.{ℕ, ◌/◌, min, List, map, Bool, true, false, cond, ◌&&◌, ltb, get_or, set}
-use Rattle.base.specs.Seq.{keep}
+use Rattle.std.specs.Prelude.{ℕ, ◌/◌, min, List, map, Bool, true, false, cond, ◌&&◌, ltb, get_or, set, Option}
+use Rattle.std.specs.List.{filter}
 use Rattle.base.specs.Marked.{place, first_leader, last_leader}
 use Rattle.base.specs.Time.{elapsed_of}
-use Rattle.base.specs.declared.types.MaybeTime.{MaybeTime}
 use Rattle.base.specs.Least.{least_of}
 use Rattle.rtt.specs.declared.types.Span.{Span}
 
@@ -81,5 +80,5 @@ unfoldable pub span_of : ℕ → ℕ → ℕ → List Span → List Span
 span_of now x horizon l = entered_of now x horizon (kept_spans now horizon l)
 
 -- the least round trip over the horizon
-unfoldable pub base_rtt : List Span → MaybeTime
-base_rtt l = least_of (map (λ s. s.rtt) (keep is_span l))
+unfoldable pub base_rtt : List Span → Option ℕ
+base_rtt l = least_of (map (λ s. s.rtt) (filter is_span l))

@@ -1,14 +1,12 @@
 -- The three round trips of a path, last, least and base: they come together, and least and base are at most the last
 -- (`new-trips` and `sample-trips` of proofs/RttLaws.antt: a new path is so, and `sample` keeps it).
-use Rattle.std.specs.Prelude.{ℕ, ◌≤◌, ◌≡◌, ◌⊎◌, length}
-use Rattle.base.specs.declared.types.MaybeTime.{MaybeTime}
-use Rattle.base.specs.declared.types.MaybeTime.TheVariants.{None, Some}
+use Rattle.std.specs.Prelude.{ℕ, ◌≤◌, ◌≡◌, ◌⊎◌, length, Option, None, Some}
 use Rattle.rtt.specs.Samples.{max_samples, min_rtt}
 use Rattle.rtt.specs.Spans.{max_spans, base_rtt}
 use Rattle.rtt.specs.declared.types.Rtts.{Rtts}
 
 -- there is a number, and it is at most x
-pub record Under (x : ℕ) (m : MaybeTime) : Type 0 where
+pub record Under (x : ℕ) (m : Option ℕ) : Type 0 where
   pub least : ℕ
   pub is : m ≡ Some least
   pub low : least ≤ x

@@ -1,10 +1,10 @@
 // What a path has measured. A place of an array that is not used is a gap.
-ghost use Rattle.std.specs.Prelude.{◌≡◌};
-ghost use Rattle.rtt.specs.Samples.{no_sample};
-ghost use Rattle.rtt.specs.Spans.{no_span};
+ghost use Rattle.std.specs.Prelude.{◌≡◌, refl};
+ghost use Rattle.rtt.specs.Samples.{no_sample, is_sample};
+ghost use Rattle.rtt.specs.Spans.{no_span, is_span};
 ghost use Rattle.rtt.specs.Rtts.{new_rtts};
 
-use base::types::MaybeTime;
+use crate::marked::Marked;
 
 // The samples that the window keeps.
 pub const SAMPLES: usize = 32;
@@ -12,7 +12,7 @@ pub const SAMPLES: usize = 32;
 // The spans that the horizon keeps.
 pub const SPANS: usize = 8;
 
-// A round trip, and the instant at which it was measured.
+// A round trip, and the instant at which it was measured. `used` is a mark and no `Option`, as in ring's `Sent`.
 #[derive(Clone, Copy)]
 pub struct Sample {
     pub at: u64,
@@ -34,7 +34,7 @@ pub struct Span {
 pub struct Rtts {
     pub samples: [Sample; SAMPLES],
     pub spans: [Span; SPANS],
-    pub rtt: MaybeTime,
+    pub rtt: Option<u64>,
 }
 
 impl Sample {
@@ -64,20 +64,71 @@ impl Span {
     }
 }
 
+impl Marked for Sample {
+    ghost held = { is_sample };
+
+    ghost since = { λ s. s.at };
+
+    ghost trip = { λ s. s.rtt };
+
+    ghost gap = { no_sample };
+
+    fn gap() -> Sample {
+        Sample::none()
+    }
+
+    fn is_held(&self) -> bool {
+        self.used
+    }
+
+    fn since(&self) -> u64 {
+        self.at
+    }
+
+    fn trip(&self) -> u64 {
+        self.rtt
+    }
+
+    ghost free = { refl };
+}
+
+impl Marked for Span {
+    ghost held = { is_span };
+
+    ghost since = { λ s. s.from };
+
+    ghost trip = { λ s. s.rtt };
+
+    ghost gap = { no_span };
+
+    fn gap() -> Span {
+        Span::none()
+    }
+
+    fn is_held(&self) -> bool {
+        self.used
+    }
+
+    fn since(&self) -> u64 {
+        self.from
+    }
+
+    fn trip(&self) -> u64 {
+        self.rtt
+    }
+
+    ghost free = { refl };
+}
+
 impl Rtts {
     // A path that has measured nothing.
     pub fn new() -> Self
         ensures { result ≡ new_rtts }
     {
-        let sample = Sample::none();
-        let span = Span::none();
-        let samples = [sample; SAMPLES];
-        let spans = [span; SPANS];
-        let rtt = MaybeTime::None;
         Rtts {
-            samples: samples,
-            spans: spans,
-            rtt: rtt,
+            samples: [Sample::none(); SAMPLES],
+            spans: [Span::none(); SPANS],
+            rtt: None,
         }
     }
 }

@@ -3,6 +3,7 @@
 -- is refused first of an edit is the list of its name. once-draws, twelve-eleven and dues-after have none: they change the
 -- claim itself, and are refused where the theorem needs it.
 -- Assumes nothing.
+use Rattle.std.specs.Prelude.{Some}
 use Prim.Native.Nat.{ℕ, zero, suc, ◌≤◌, ◌^◌}
 use mathlib.Core.Bool.{Bool, false}
 use mathlib.Core.Path.{◌≡◌, refl}
@@ -11,10 +12,9 @@ use mathlib.Core.Logic.{inl, inr}
 use native.Mathlib.Omega.{arith}
 use lib.Dec.{eqb}
 use lib.ListN.{length}
-use Rattle.base.specs.Seq.{keep}
+use Rattle.std.specs.List.{filter}
 use Rattle.base.proofs.Cases.{never}
 use Rattle.base.specs.Refusals.{refusal_number}
-use Rattle.base.specs.declared.types.MaybeTime.TheVariants as time
 use Rattle.ring.specs.Ring.{waiting}
 use Rattle.rules.specs.Answers.{event, settings, answers}
 use Rattle.rules.specs.Event.{number_of, value_of}
@@ -146,7 +146,7 @@ polls-gap = tt
 -- ---- once: the second probe is not the first one
 
 once-anew : length
-    (keep (eqb 7) (book_after t (opens 27 0 ∷ probe ∷ answer 7 ∷ probe ∷ answer 7 ∷ []) 0).probes.timely) ≡ 1
+    (filter (eqb 7) (book_after t (opens 27 0 ∷ probe ∷ answer 7 ∷ probe ∷ answer 7 ∷ []) 0).probes.timely) ≡ 1
 unfolding answers noted
 once-anew = refl
 
@@ -224,7 +224,7 @@ agrees-seek : Searched (opens 60 0 ∷ prove 27 ∷ search 0 ∷ fresh ∷ [])
 unfolding answers noted
 agrees-seek = refl
 
-agrees_at : (slot_after t out 0).path.sizes.seek.at ≡ time.Some (book_after t out 0).sizing.probe_at
+agrees_at : (slot_after t out 0).path.sizes.seek.at ≡ Some (book_after t out 0).sizing.probe_at
 unfolding answers noted
 agrees_at = refl
 

@@ -1,5 +1,6 @@
 -- What slot and book have in common, and the facts that each event keeps of them.
 -- Assumes nothing.
+use Rattle.std.specs.Prelude.{Some, Ok}
 use Prim.Native.Nat.{ℕ, zero, suc, ◌+◌, ◌≤◌, ◌<◌}
 use mathlib.Core.Bool.{Bool, true, false, not, ◌&&◌, cond}
 use mathlib.Core.Path.{◌≡◌, refl, ap, sym, ◌∙◌, subst}
@@ -8,8 +9,7 @@ use native.Mathlib.Omega.{arith}
 use lib.Dec.{eqb}
 use borrow.Author.Tests.{leb-false}
 use Rattle.base.specs.Limits.{duration_end, is_endless}
-use Rattle.base.specs.Seq.{every}
-use Rattle.base.specs.declared.types.MaybeLen.TheVariants as len
+use Rattle.std.specs.List.{list_all}
 use Rattle.base.proofs.Cases.{never}
 use Rattle.seek.specs.declared.types.Sizes.{Sizes}
 use Rattle.live.specs.New.{new_liveness}
@@ -125,7 +125,7 @@ not-zero (suc n) e = omega arith
 
 -- allowed settings
 module _ (t : Settings) (small : allowed t ≡ true) where
-  both : (a b : Bool) → cond a b false ≡ true → (a ≡ true) × (b ≡ true)
+  both : (a b : Bool) → (a && b) ≡ true → (a ≡ true) × (b ≡ true)
   both true b e = (refl, e)
   both false b e = never {t = false} e refl
 
@@ -134,9 +134,9 @@ module _ (t : Settings) (small : allowed t ≡ true) where
   not-true false e = refl
 
   abbrev rest : Bool
-  rest = every (λ d. not (is_endless d)) (t.window ∷ t.horizon ∷ [])
+  rest = list_all (λ d. not (is_endless d)) (t.window ∷ t.horizon ∷ [])
 
-  cap-and : (not (is_endless t.cap) ≡ true) × (cond (not (is_endless t.gap)) rest false ≡ true)
+  cap-and : (not (is_endless t.cap) ≡ true) × ((not (is_endless t.gap) && rest) ≡ true)
   cap-and = both (not (is_endless t.cap)) _ small
 
   pub cap-small : t.cap < duration_end
@@ -159,7 +159,7 @@ module _ (t : Settings) (s : Slot) (b₀ : Book) where
 
   module _ (h : Inv t s b) where
     -- a path that differs in nothing that the book has
-    pub same : (q : Liveness) → lane_of q ≡ lane_of p → q.sizes ≡ z → Inv t (turn s q reply.Nothing).slot b
+    pub same : (q : Liveness) → lane_of q ≡ lane_of p → q.sizes ≡ z → Inv t (turn s q (Ok reply.Nothing)).slot b
     same q f g =
         record {
           agrees = record {
@@ -184,5 +184,5 @@ module _ (t : Settings) (s : Slot) (b₀ : Book) where
     move-kept m q k w = by_move s.label.full k w b.sizing.tally m q (h.sizing k w)
 
     -- where a probe is out something is proven, and the probe is no longer than full
-    pub known : 1 ≤ z.seek.len → (z.seek.len ≤ s.label.full) × ((n : ℕ) × (z.proven ≡ len.Some n))
+    pub known : 1 ≤ z.seek.len → (z.seek.len ≤ s.label.full) × ((n : ℕ) × (z.proven ≡ Some n))
     known o = out_of s.label.full 11 b.sizing.tally (h.sizing 11 (omega (arith, h.whole))) o

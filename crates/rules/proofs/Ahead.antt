@@ -1,5 +1,7 @@
 -- No probe of the record is due before it was sent: 23 is tried, and the book takes only what was accepted.
 -- Assumes nothing.
+use Rattle.std.specs.Prelude.{Result, Err}
+use Rattle.base.specs.declared.types.Refusal.{Refusal}
 use Prim.Native.Nat.{ℕ, ◌≤◌, ◌<◌}
 use mathlib.Core.Bool.{true, false, ◌&&◌}
 use mathlib.Core.Path.{◌≡◌, ap}
@@ -12,7 +14,8 @@ use Rattle.base.specs.declared.types.Refusal.TheVariants as refusal
 use Rattle.base.proofs.Cases.{on-flag, cond_cases}
 use Rattle.base.proofs.RefusalLaws.{number-some}
 use Rattle.ring.specs.Lapse.{is_passed, defer_of}
-use Rattle.rules.specs.Event.{Open, Probe, Answer, Poll, Sweep, Close, is, bit, number_of, value_of}
+use Rattle.rules.specs.Event.{is, bit, number_of, value_of}
+use Rattle.rules.specs.declared.types.Kind.TheVariants.{Open, Probe, Answer, Poll, Sweep, Close}
 use Rattle.rules.specs.Rules.{refusals, on_slot}
 use Rattle.rules.specs.Step.{Entry, fresh_record, slot_at, step, trace}
 use Rattle.rules.specs.Book.{Book, Books, no_marks, new_book, waiting_after, noted, blanks, note, note_all}
@@ -50,18 +53,18 @@ accepted-ahead r e n q =
 
 -- 23, where no refusal before it applies
 probe-refused : (r : Record) (e : Event) → e.slot ≤ 7 → (slot_at r e.slot).used ≡ true → is_overlong e.len ≡ false
-    → e.span < e.now → (step r (with_kind e 2)).reply ≡ reply.Refused refusal.Due
+    → e.span < e.now → (step r (with_kind e 2)).reply ≡ Err refusal.Due
 unfolding step on_slot
 probe-refused r e s u l d = rw (le-ltb 7 e.slot s, u, l, lt-ltb e.span e.now d)
 
 refuses : (r : Record) (e : Event) → Refuses r e
 refuses r e q =
     by_number (λ (x : Event). x.slot ≤ 7 → (slot_at r x.slot).used ≡ true → is_overlong x.len ≡ false
-    → x.span < x.now → step r x ≡ record { next = r; reply = reply.Refused refusal.Due }) Probe e q
+    → x.span < x.now → step r x ≡ record { next = r; reply = Err refusal.Due }) Probe e q
     (λ s u l d.
     let x = with_kind e 2 in
-    let z : (step r x).reply ≡ reply.Refused refusal.Due = probe-refused r e s u l d in
-    let n : (step r x).next ≡ r = refused-left r x (ap (λ (y : Reply). eqb (number_of y) 0) z) in
+    let z : (step r x).reply ≡ Err refusal.Due = probe-refused r e s u l d in
+    let n : (step r x).next ≡ r = refused-left r x (ap (λ (y : Result Reply Refusal). eqb (number_of y) 0) z) in
     λ i. record { next = n i; reply = z i })
 
 -- ---- the probes that wait

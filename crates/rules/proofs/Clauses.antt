@@ -1,5 +1,6 @@
 -- The clauses of demand 3 at one event, of books that agreed with the slots before it and do so after it.
 -- Assumes nothing.
+use Rattle.std.specs.Prelude.{Some}
 use Prim.Native.Nat.{ℕ, suc, ◌+◌, ◌≤◌}
 use mathlib.Core.Bool.{Bool, true, false, not, ◌&&◌, cond}
 use mathlib.Core.Logic.{◌⊎◌, inl, inr}
@@ -8,9 +9,9 @@ use mathlib.Core.List.{◌∷◌}
 use native.Mathlib.Omega.{arith}
 use lib.Dec.{eqb}
 use borrow.Author.Tests.{eq-eqb}
-use Rattle.base.specs.declared.types.MaybeLen.TheVariants as len
 use Rattle.base.proofs.Cases.{on-flag}
-use Rattle.rules.specs.Event.{Answer, Poll, Search, Judge, is, bit}
+use Rattle.rules.specs.Event.{is, bit}
+use Rattle.rules.specs.declared.types.Kind.TheVariants.{Answer, Poll, Search, Judge}
 use Rattle.rules.specs.Step.{Entry}
 use Rattle.rules.specs.Book.{Acked, Lost, Book, Books, waits, out_size, is_ack, is_loss, answer_says, judge_says, clears, waiting_at, noted, note}
 use Rattle.rules.specs.Demand3.{Every, Accepted, Once, Stays, Polled, Sought, AtMost, Carries, Rest, Rested, Settled}
@@ -72,13 +73,13 @@ module _ (t : Settings) (b : Book) (e : Event) (v : ℕ) where
   sought-out q w = by_number (λ (x : Event). w.0 ≡ out_size (noted t b x v)) Search e q (rw w.1)
 
   pub sought-noted : is Search e ≡ true → Proposed b e.now
-      → proposed b.marks.full b.sizing.tally.search ≡ len.Some (out_size (noted t b e v))
-  sought-noted q w = w.1 ∙ ap (λ (n : ℕ). len.Some n) (sought-out q w)
+      → proposed b.marks.full b.sizing.tally.search ≡ Some (out_size (noted t b e v))
+  sought-noted q w = w.1 ∙ ap (λ (n : ℕ). Some n) (sought-out q w)
 
   -- ---- a clearing, where the link carries just the sizes up to L
 
   module _ (s : Slot) (h : Inv t s b) (L n : ℕ) (w : Every (Carries L) (noted t b e v).sizing.words)
-      (proven : (noted t b e v).sizing.tally.search.proven ≡ len.Some n) where
+      (proven : (noted t b e v).sizing.tally.search.proven ≡ Some n) where
     cleared-ack : (is Answer e ≡ true → v ≡ answer_says b e) → is_ack b e ≡ true
         → clearing b.sizing.tally.search (size.Answer e.acked) ≡ true → L ≤ n + 31
     cleared-ack fa q c =
@@ -147,7 +148,7 @@ module _ (t : Settings) (before after : ℕ → Slot) (bs : Books) (x : Entry) (
   pub sought-at : ((j : ℕ) → Accepted Search j x → Proposed (bs j) x.event.now) → Sought bs x (note t bs x)
   sought-at w j a = (
     (w j a).2,
-    subst (λ (b : Book). proposed (bs j).marks.full (bs j).sizing.tally.search ≡ len.Some (out_size b))
+    subst (λ (b : Book). proposed (bs j).marks.full (bs j).sizing.tally.search ≡ Some (out_size b))
         (sym (noted-at j a.0 a.1))
         (sought-noted t (bs j) x.event x.value a.2 (w j a)),
   )

@@ -1,20 +1,19 @@
 -- A refused event leaves the record as it came.
 -- Assumes nothing.
+use Rattle.std.specs.Prelude.{Option, None, Some, Result, Ok}
 use Prim.Native.Nat.{ℕ}
 use mathlib.Core.Bool.{Bool, true, false, not, cond}
 use mathlib.Core.Path.{◌≡◌, refl, ap, ◌∙◌}
 use mathlib.Core.List.{List, [], ◌∷◌}
 use lib.Dec.{eqb, leb, ltb}
 use borrow.Author.Tests.{eqb-false}
-use Rattle.base.specs.Seq.{every}
+use Rattle.std.specs.List.{list_all}
 use Rattle.base.specs.Refusals.{refusal_number}
 use lib.ListN.{set}
 use lib.Seq.{set-get_or}
 use Rattle.base.specs.Limits.{is_overlong, is_undersize, is_endless}
 use Rattle.base.specs.declared.types.Refusal.{Refusal}
 use Rattle.base.specs.declared.types.Refusal.TheVariants as refusal
-use Rattle.base.specs.declared.types.MaybeLen.{MaybeLen}
-use Rattle.base.specs.declared.types.MaybeLen.TheVariants as len
 use Rattle.base.proofs.Cases.{never, cond_cases}
 use Rattle.base.proofs.RefusalLaws.{number-some}
 use Rattle.ring.specs.Ring.{first_free, found}
@@ -25,7 +24,8 @@ use Rattle.live.specs.Search as live
 use Rattle.live.specs.declared.types.Outcome.{Outcome}
 use Rattle.live.specs.declared.types.Answer.{Answer}
 use Rattle.live.specs.declared.types.Liveness.{Liveness}
-use Rattle.rules.specs.Event.{Choose, is, number_of}
+use Rattle.rules.specs.Event.{is, number_of}
+use Rattle.rules.specs.declared.types.Kind.TheVariants.{Choose}
 use Rattle.rules.specs.Rules.{empty_slot, turn, turn_by, answered, searched, refusals, is_clear, on_slot}
 use Rattle.rules.specs.Step.{slot_at, choice_of, step}
 use Rattle.rules.specs.declared.types.Settings.{Settings}
@@ -66,9 +66,9 @@ module _ (t : Settings) (s : Slot) (e₀ : Event) where
       (λ f. cond_cases (λ (x : Outcome). N 3 (turn_by s x)) (ltb (found e₀.id p.late) 4) _ _ (λ g q. taken q)
       (λ g q. refl))
 
-  by-settled : (o : MaybeLen) (d : Settled) → N 3 (answered (live.settled_by p o d) s (e 3))
-  by-settled len.None d = by-ring
-  by-settled (len.Some n) d = λ q. taken q
+  by-settled : (o : Option ℕ) (d : Settled) → N 3 (answered (live.settled_by p o d) s (e 3))
+  by-settled None d = by-ring
+  by-settled (Some n) d = λ q. taken q
 
   by_answer : Work t s e₀ N 3
   unfolding live.seek_answer_of
@@ -77,20 +77,20 @@ module _ (t : Settings) (s : Slot) (e₀ : Event) where
       (λ f. by-settled (search.settled_search p.sizes e₀.id t.gap).len
       (search.settled_search p.sizes e₀.id t.gap))
 
-  by_size : (o : MaybeLen) → N 8 (searched (live.len_or refusal.NoSize o) s (e 8))
+  by_size : (o : Option ℕ) → N 8 (searched (live.len_or refusal.NoSize o) s (e 8))
   unfolding live.seek_send_of
-  by_size len.None = λ q. refl
-  by_size (len.Some n) =
+  by_size None = λ q. refl
+  by_size (Some n) =
       cond_cases (λ (x : Outcome). N 8 (turn_by s x)) (is_overlong n) _ _ (λ f q. refl) (λ f q. taken q)
 
   by-search : Work t s e₀ N 8
   unfolding live.seek_size_of
   by-search ok =
-      cond_cases (λ (x : Answer). N 8 (searched x s (e 8))) (is_overlong s.label.full) _ _ (λ f q. refl)
-      (λ f. cond_cases (λ (x : Answer). N 8 (searched x s (e 8))) (is_undersize s.label.full) _ _ (λ g q. refl)
+      cond_cases (λ (x : Result Answer Refusal). N 8 (searched x s (e 8))) (is_overlong s.label.full) _ _ (λ f q. refl)
+      (λ f. cond_cases (λ (x : Result Answer Refusal). N 8 (searched x s (e 8))) (is_undersize s.label.full) _ _ (λ g q. refl)
       (λ g. by_size (search.search_size p.sizes s.label.full e₀.now)))
 
-  by-lost : (lost : Bool) (q : Liveness) → N 9 (turn s q (cond lost reply.Lost reply.Waits))
+  by-lost : (lost : Bool) (q : Liveness) → N 9 (turn s q (cond lost (Ok reply.Lost) (Ok reply.Waits)))
   by-lost true q = λ f. taken f
   by-lost false q = λ f. taken f
 
@@ -150,7 +150,7 @@ refused-left r e =
     (ap (set r.slots e.slot) z ∙ set-get_or r.slots e.slot empty_slot))
 
 -- an accepted event is clear: no condition of the refusals' list holds
-passes-clear : (l : List (Refusal × Bool)) → Passes l → every (λ (x : Refusal × Bool). not x.1) l ≡ true
+passes-clear : (l : List (Refusal × Bool)) → Passes l → list_all (λ (x : Refusal × Bool). not x.1) l ≡ true
 passes-clear [] ok = refl
 passes-clear (x ∷ l) ok = rw ok.0 (passes-clear l ok.1)
 

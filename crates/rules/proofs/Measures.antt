@@ -2,6 +2,8 @@
 -- is some calls of its methods, and a slot is opened and closed with a new one. So ETX is within 1 and 100, and no score
 -- is a NaN. No premise at all: any settings, any events.
 -- Assumes nothing.
+use Rattle.std.specs.Prelude.{Option, None, Some, Result}
+use Rattle.base.specs.declared.types.Refusal.{Refusal}
 use Prim.Native.Nat.{ℕ, zero, suc}
 use mathlib.Core.Bool.{Bool, true, false}
 use mathlib.Core.Path.{◌≡◌, ap, sym, ◌∙◌}
@@ -9,8 +11,6 @@ use mathlib.Core.List.{List, [], ◌∷◌}
 use lib.ListN.{get_or, replicate}
 use lib.Ieee.{Float, is_nan}
 use Rattle.base.proofs.Cases.{cond_cases}
-use Rattle.base.specs.declared.types.MaybeTime.{MaybeTime}
-use Rattle.base.specs.declared.types.MaybeTime.TheVariants as time
 use Rattle.etx.specs.Etx.{Within}
 use Rattle.etx.proofs.ScoreLaws.{score-real}
 use Rattle.rtt.specs.Samples.{min_rtt}
@@ -27,8 +27,8 @@ use Rattle.kept.proofs.KeptLaws.{kept_new, kept_send, kept-answer, kept-expire, 
 use Rattle.kept.proofs.KeptLaws.{kept-seek-send, kept-seek-answer, kept-seek-proved, kept-seek-judge, kept-fold}
 use Rattle.kept.proofs.KeptLaws.{kept-heard, kept-after}
 use Rattle.scores.specs.Scores.{scored, path_score, path_steady}
-use Rattle.scores.specs.declared.MaybeScore.TheVariants as score
-use Rattle.rules.specs.Event.{Choose, is, bit}
+use Rattle.rules.specs.Event.{is, bit}
+use Rattle.rules.specs.declared.types.Kind.TheVariants.{Choose}
 use Rattle.rules.specs.Rules.{empty_slot, answered, poll_of, searched, on_slot}
 use Rattle.rules.specs.Step.{fresh_record, slot_at, choice_of, step, run}
 use Rattle.rules.specs.Demand3.{slot_after}
@@ -62,7 +62,7 @@ module _ (t : Settings) (s : Slot) (e : Event) (h : Kept s.path) where
       (λ f. kept-seek-proved k (answer_value x.answer) e.acked e.now)
       (λ f. kept-answer h e.id)
 
-  searched-kept : (x : Answer) → N 8 (searched x s (with_kind e 8))
+  searched-kept : (x : Result Answer Refusal) → N 8 (searched x s (with_kind e 8))
   searched-kept x =
       cond_cases (N 8) (is_accepted x) _ _ (λ f. kept-seek-send h e.now (answer_value x) e.id) (λ f. h)
 
@@ -150,19 +150,19 @@ etx-after t es j = (path-after t es j).within
 
 -- ---- scores
 
-real : (etx : Float) (o : MaybeTime) → Within etx → (x : Float) → scored etx o ≡ score.Some x → is_nan x ≡ false
-real etx time.None h x e = let y : true ≡ false = cc in cc
-real etx (time.Some rtt) h x e = ap is_nan (sym (same e)) ∙ score-real etx rtt h
+real : (etx : Float) (o : Option ℕ) → Within etx → (x : Float) → scored etx o ≡ Some x → is_nan x ≡ false
+real etx None h x e = let y : true ≡ false = cc in cc
+real etx (Some rtt) h x e = ap is_nan (sym (same e)) ∙ score-real etx rtt h
   where
-    same : {a b : Float} → score.Some a ≡ score.Some b → a ≡ b
+    same : {a b : Float} → Some a ≡ Some b → a ≡ b
     same q = cc
 
 pub score-after : (t : Settings) (es : List Event) (j : ℕ) (x : Float)
-    → path_score (slot_after t es j).path ≡ score.Some x → is_nan x ≡ false
+    → path_score (slot_after t es j).path ≡ Some x → is_nan x ≡ false
 score-after t es j = real (slot_after t es j).path.etx (min_rtt (slot_after t es j).path.rtts.samples)
     (etx-after t es j)
 
 pub steady-after : (t : Settings) (es : List Event) (j : ℕ) (x : Float)
-    → path_steady (slot_after t es j).path ≡ score.Some x → is_nan x ≡ false
+    → path_steady (slot_after t es j).path ≡ Some x → is_nan x ≡ false
 steady-after t es j = real (slot_after t es j).path.etx (base_rtt (slot_after t es j).path.rtts.spans)
     (etx-after t es j)

@@ -1,5 +1,6 @@
 -- The events that leave the size search: open, probe, sample, fold, data, thaw, sweep and close.
 -- Assumes nothing.
+use Rattle.std.specs.Prelude.{Option, None, Ok, Err}
 use Prim.Native.Nat.{ℕ, ◌+◌}
 use mathlib.Core.Bool.{false, ◌||◌}
 use mathlib.Core.Path.{◌≡◌, refl, ap, ◌∙◌}
@@ -11,8 +12,6 @@ use Rattle.base.proofs.Cases.{cond_cases}
 use Rattle.base.specs.Limits.{is_overlong, is_undersize, is_endless}
 use Rattle.base.specs.declared.types.Refusal.{Refusal}
 use Rattle.base.specs.declared.types.Refusal.TheVariants as refusal
-use Rattle.base.specs.declared.types.MaybeId.{MaybeId}
-use Rattle.base.specs.declared.types.MaybeId.TheVariants as mid
 use Rattle.base.proofs.BookLaws.{holds_kept}
 use Rattle.ring.specs.Ring.{no_sent, is_used, outstanding_of, first_free, all_count}
 use Rattle.ring.specs.Ids.{taken_of, next_ids}
@@ -62,7 +61,7 @@ module _ (t : Settings) (s : Slot) (b₀ : Book) where
     abbrev N : ℕ → Turn → Type 0
     N k u = Next (Inv t) t b (e k) u
 
-    no : (k : ℕ) (why : Refusal) → N k (turn s p (reply.Refused why))
+    no : (k : ℕ) (why : Refusal) → N k (turn s p (Err why))
     no k why = refused (Inv t) t s b h (e k) why
 
     -- ---- open and close
@@ -82,11 +81,11 @@ module _ (t : Settings) (s : Slot) (b₀ : Book) where
     pub by-sample : Work t s e₀ N 5
     unfolding noted times.sample_of
     by-sample ok =
-        cond_cases (λ (x : Outcome). N 5 (turn s x.path reply.Nothing)) (is_endless e₀.span) _ _
+        cond_cases (λ (x : Outcome). N 5 (turn s x.path (Ok reply.Nothing))) (is_endless e₀.span) _ _
         (λ f few. same t s b₀ h p refl refl)
-        (λ f. cond_cases (λ (x : Outcome). N 5 (turn s x.path reply.Nothing)) (is_endless t.window) _ _
+        (λ f. cond_cases (λ (x : Outcome). N 5 (turn s x.path (Ok reply.Nothing))) (is_endless t.window) _ _
         (λ f few. same t s b₀ h p refl refl)
-        (λ f. cond_cases (λ (x : Outcome). N 5 (turn s x.path reply.Nothing)) (is_endless t.horizon) _ _
+        (λ f. cond_cases (λ (x : Outcome). N 5 (turn s x.path (Ok reply.Nothing))) (is_endless t.horizon) _ _
         (λ f few. same t s b₀ h p refl refl)
         (λ f few. same t s b₀ h _ refl refl)))
 
@@ -100,7 +99,7 @@ module _ (t : Settings) (s : Slot) (b₀ : Book) where
 
     -- ---- data
 
-    data-kept : (f : Traffic) → N 10 (turn s (times.carried_of (with_traffic p f) now) reply.Nothing)
+    data-kept : (f : Traffic) → N 10 (turn s (times.carried_of (with_traffic p f) now) (Ok reply.Nothing))
     unfolding noted
     data-kept f few =
         record {
@@ -122,7 +121,7 @@ module _ (t : Settings) (s : Slot) (b₀ : Book) where
     pub by-data : Work t s e₀ N 10
     unfolding times.heard_of
     by-data ok =
-        cond_cases (λ (x : Outcome). N 10 (turn s (times.carried_of x.path now) reply.Nothing)) (is_overlong size) _ _
+        cond_cases (λ (x : Outcome). N 10 (turn s (times.carried_of x.path now) (Ok reply.Nothing))) (is_overlong size) _ _
         (λ f. data-kept p.traffic) (λ f. data-kept (times.heard_traffic p.traffic size now))
 
     -- ---- sweep
@@ -152,7 +151,7 @@ module _ (t : Settings) (s : Slot) (b₀ : Book) where
 
     -- ---- probe
 
-    abbrev ids_with : MaybeId → Ids
+    abbrev ids_with : Option ℕ → Ids
     ids_with since =
         record { next_id = p.ids.next_id; answered = p.ids.answered; epoch = p.ids.epoch; since = since }
 
@@ -165,11 +164,11 @@ module _ (t : Settings) (s : Slot) (b₀ : Book) where
               (with_ids (with_ladder (with_silence p (quiet_from p.silence now)) (sent_ladder p.ladder size))
               (next_ids m sent.probe_id))
               (set p.ring (first_free p.ring) sent);
-          answer = answer.Id sent.probe_id;
+          answer = Ok (answer.Id sent.probe_id);
         }
 
     -- whatever becomes of `since`
-    sent-kept : (since : MaybeId) → leb 8 (first_free p.ring) ≡ false → N 2 (turn_by s (sent_from (ids_with since)))
+    sent-kept : (since : Option ℕ) → leb 8 (first_free p.ring) ≡ false → N 2 (turn_by s (sent_from (ids_with since)))
     unfolding noted
     sent-kept since f few =
         record {
@@ -188,5 +187,5 @@ module _ (t : Settings) (s : Slot) (b₀ : Book) where
         (λ g.
         cond_cases (λ (m : Ids). N 2 (turn_by s (sent_from m)))
         (all_count p.ids.since p.ring) _ _
-        (λ k. sent-kept mid.None g)
+        (λ k. sent-kept None g)
         (λ k. sent-kept p.ids.since g)))

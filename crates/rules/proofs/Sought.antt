@@ -1,5 +1,6 @@
 -- The events of the size search: prove, search, judge and fresh.
 -- Assumes nothing.
+use Rattle.std.specs.Prelude.{Option, None, Some, Result, Ok, Err}
 use Prim.Native.Nat.{ℕ, ◌≤◌}
 use mathlib.Core.Bool.{Bool, true, false, not, ◌&&◌, ◌||◌, cond}
 use mathlib.Core.Path.{◌≡◌, refl, ap, sym, ◌∙◌, subst}
@@ -11,10 +12,6 @@ use Rattle.base.specs.Limits.{min_len, is_overlong, is_undersize, is_endless}
 use Rattle.base.specs.Time.{deadline_of}
 use Rattle.base.specs.declared.types.Refusal.{Refusal}
 use Rattle.base.specs.declared.types.Refusal.TheVariants as refusal
-use Rattle.base.specs.declared.types.MaybeLen.{MaybeLen}
-use Rattle.base.specs.declared.types.MaybeLen.TheVariants as len
-use Rattle.base.specs.declared.types.MaybeTime.{MaybeTime}
-use Rattle.base.specs.declared.types.MaybeTime.TheVariants as time
 use Rattle.base.proofs.Cases.{on-flag, never, cond_cases}
 use Rattle.ring.specs.Ids.{taken_of}
 use Rattle.seek.specs.Rules.{known_of}
@@ -65,7 +62,7 @@ module _ (t : Settings) (s : Slot) (b₀ : Book) where
     abbrev N : ℕ → Turn → Type 0
     N k u = Next (Inv t) t b (e k) u
 
-    no : (k : ℕ) (why : Refusal) → N k (turn s p (reply.Refused why))
+    no : (k : ℕ) (why : Refusal) → N k (turn s p (Err why))
     no k why = refused (Inv t) t s b h (e k) why
 
     abbrev T : size.Tally
@@ -91,7 +88,7 @@ module _ (t : Settings) (s : Slot) (b₀ : Book) where
         }
 
     proved-kept : is_undersize e₀.len ≡ false
-        → N 7 (turn s (with_sizes p (search.proven_sizes z e₀.len).sizes) reply.Nothing)
+        → N 7 (turn s (with_sizes p (search.proven_sizes z e₀.len).sizes) (Ok reply.Nothing))
     unfolding noted
     proved-kept g few =
         let q : (move s.label.full T (size.Prove e₀.len)).search ≡ search_of
@@ -116,9 +113,9 @@ module _ (t : Settings) (s : Slot) (b₀ : Book) where
     unfolding live.prove_of
     by-prove ok =
         let r = or-false (is_overlong e₀.len || false) (is_undersize e₀.len) ok.1.1.1.1.1.0 in
-        cond_cases (λ (x : Outcome). N 7 (turn s x.path reply.Nothing)) (is_overlong e₀.len) _ _
+        cond_cases (λ (x : Outcome). N 7 (turn s x.path (Ok reply.Nothing))) (is_overlong e₀.len) _ _
         (λ f. never f (or-false (is_overlong e₀.len) false r.0).0)
-        (λ f. cond_cases (λ (x : Outcome). N 7 (turn s x.path reply.Nothing)) (is_undersize e₀.len) _ _
+        (λ f. cond_cases (λ (x : Outcome). N 7 (turn s x.path (Ok reply.Nothing))) (is_undersize e₀.len) _ _
         (λ g. never g r.1) proved-kept)
 
     -- ---- search
@@ -126,21 +123,21 @@ module _ (t : Settings) (s : Slot) (b₀ : Book) where
     -- a size is proposed
     abbrev pub Proposes : ℕ → Type 0
     Proposes n =
-        (z.seek.len ≡ 0) × (search.propose_of z.seek.lost z.proven s.label.full ≡ len.Some n)
+        (z.seek.len ≡ 0) × (search.propose_of z.seek.lost z.proven s.label.full ≡ Some n)
         × (search.may_try z.seek.at now ≡ true)
 
-    proposes : (n : ℕ) → search.search_size z s.label.full now ≡ len.Some n → Proposes n
+    proposes : (n : ℕ) → search.search_size z s.label.full now ≡ Some n → Proposes n
     unfolding search.search_size
     proposes n q = go (eqb z.seek.len 0) (search.may_try z.seek.at now) refl refl q
       where
         go : (f g : Bool) → eqb z.seek.len 0 ≡ f → search.may_try z.seek.at now ≡ g
-            → cond (f && g) (search.propose_of z.seek.lost z.proven s.label.full) len.None ≡ len.Some n
+            → cond (f && g) (search.propose_of z.seek.lost z.proven s.label.full) None ≡ Some n
             → Proposes n
         go true true f k q = (eqb-true z.seek.len 0 f, q, k)
         go true false f k q = none-some q
         go false g f k q = none-some q
 
-    pub proposed-is : (n : ℕ) → Proposes n → size.proposed s.label.full (search_of z) ≡ len.Some n
+    pub proposed-is : (n : ℕ) → Proposes n → size.proposed s.label.full (search_of z) ≡ Some n
     proposed-is n q = rw (eq-eqb z.seek.len 0 q.0) q.1
 
     out-most : (n v x : ℕ) → cond (eqb n 0) 0 (occ x (v ∷ [])) ≤ occ x (v ∷ [])
@@ -175,23 +172,23 @@ module _ (t : Settings) (s : Slot) (b₀ : Book) where
         }
 
     -- the cases of a search: refused, or a size is proposed and sent
-    module _ (Q : Turn → Type 0) (no : (why : Refusal) → Q (turn s p (reply.Refused why)))
+    module _ (Q : Turn → Type 0) (no : (why : Refusal) → Q (turn s p (Err why)))
         (yes : (n : ℕ) → Proposes n
         → Q (turn_by s (live.seek_sent_at (take_id_of p e₀.id).path now n (take_id_of p e₀.id).id))) where
-      size-cases : (o : MaybeLen) → ((n : ℕ) → o ≡ len.Some n → Proposes n)
+      size-cases : (o : Option ℕ) → ((n : ℕ) → o ≡ Some n → Proposes n)
           → Q (searched (live.len_or refusal.NoSize o) s (e 8))
       unfolding live.seek_send_of
-      size-cases len.None q = no refusal.NoSize
-      size-cases (len.Some n) q =
+      size-cases None q = no refusal.NoSize
+      size-cases (Some n) q =
           cond_cases (λ (x : Outcome). Q (turn_by s x)) (is_overlong n) _ _
           (λ f. no refusal.Length) (λ f. yes n (q n refl))
 
       pub search-cases : Q (searched (live.seek_size_of p s.label.full now) s (e 8))
       unfolding live.seek_size_of
       search-cases =
-          cond_cases (λ (x : Answer). Q (searched x s (e 8))) (is_overlong s.label.full) _ _
+          cond_cases (λ (x : Result Answer Refusal). Q (searched x s (e 8))) (is_overlong s.label.full) _ _
           (λ f. no refusal.Length)
-          (λ f. cond_cases (λ (x : Answer). Q (searched x s (e 8))) (is_undersize s.label.full) _ _
+          (λ f. cond_cases (λ (x : Result Answer Refusal). Q (searched x s (e 8))) (is_undersize s.label.full) _ _
           (λ g. no refusal.Length)
           (λ g. size-cases (search.search_size z s.label.full now) proposes))
 
@@ -200,24 +197,24 @@ module _ (t : Settings) (s : Slot) (b₀ : Book) where
 
     -- ---- judge
 
-    abbrev pub lost_by : MaybeTime → Bool
+    abbrev pub lost_by : Option ℕ → Bool
     lost_by a = search.judges_of z.seek a p.ids.answered now e₀.span
 
     abbrev pub lost : Bool
     lost = lost_by z.seek.at
 
     -- a search probe that is lost was out
-    lost-out : (a : MaybeTime) → lost_by a ≡ true → 1 ≤ z.seek.len
-    lost-out time.None q = never {t = false} q refl
-    lost-out (time.Some a) q = not-zero z.seek.len (and-true (not (eqb z.seek.len 0)) _ q).0
+    lost-out : (a : Option ℕ) → lost_by a ≡ true → 1 ≤ z.seek.len
+    lost-out None q = never {t = false} q refl
+    lost-out (Some a) q = not-zero z.seek.len (and-true (not (eqb z.seek.len 0)) _ q).0
 
     -- the book says the same
     pub loss-is : is_loss b (e 9) ≡ lost
     loss-is = on-flag (eqb z.seek.len 0) (λ f. none_here f ∙ sym (none_out z.seek.at f)) some_out
       where
-        none_out : (a : MaybeTime) → eqb z.seek.len 0 ≡ true → lost_by a ≡ false
-        none_out time.None f = refl
-        none_out (time.Some a) f = rw f
+        none_out : (a : Option ℕ) → eqb z.seek.len 0 ≡ true → lost_by a ≡ false
+        none_out None f = refl
+        none_out (Some a) f = rw f
 
         none_here : eqb z.seek.len 0 ≡ true → is_loss b (e 9) ≡ false
         none_here f = rw f
@@ -232,8 +229,8 @@ module _ (t : Settings) (s : Slot) (b₀ : Book) where
     lost-kept : (q : Liveness) → lost ≡ true → lane_of q ≡ lane_of p
         → search_of q.sizes ≡ (move s.label.full T size.Judge).search
         → q.sizes.seek.at ≡ cond (size.clearing (search_of z) size.Judge)
-        (time.Some (deadline_of 64 now search.raise_gap)) (time.Some (deadline_of 64 b.sizing.probe_at t.gap))
-        → q.sizes.seek.len ≡ 0 → N 9 (turn s q reply.Lost)
+        (Some (deadline_of 64 now search.raise_gap)) (Some (deadline_of 64 b.sizing.probe_at t.gap))
+        → q.sizes.seek.len ≡ 0 → N 9 (turn s q (Ok reply.Lost))
     unfolding noted
     lost-kept q l f g m n =
         let none : (move s.label.full T size.Judge).search.out ≡ 0 = sym (ap (λ (x : size.Search). x.out) g) ∙ n in
@@ -254,15 +251,15 @@ module _ (t : Settings) (s : Slot) (b₀ : Book) where
           limit = λ L w. under-move L s.label.full T size.Judge (h.limit L w.1) (λ y. w.0);
         })
 
-    waits_kept : lost ≡ false → N 9 (turn s p reply.Waits)
+    waits_kept : lost ≡ false → N 9 (turn s p (Ok reply.Waits))
     unfolding noted
     waits_kept q = rw (loss-is ∙ q) (λ few. same t s b₀ h p refl refl)
 
     -- the cases of a judge: refused, lost, or it waits
-    module _ (Q : Turn → Type 0) (no : Q (turn s p (reply.Refused refusal.Duration)))
+    module _ (Q : Turn → Type 0) (no : Q (turn s p (Err refusal.Duration)))
         (yes : lost ≡ true → Q (turn s
-        (with_sizes p (search.drop_of z (known_of min_len z.proven) now t.gap).sizes) reply.Lost))
-        (wait : lost ≡ false → Q (turn s p reply.Waits)) where
+        (with_sizes p (search.drop_of z (known_of min_len z.proven) now t.gap).sizes) (Ok reply.Lost)))
+        (wait : lost ≡ false → Q (turn s p (Ok reply.Waits))) where
       pub judge-cases : Q (turn_by s (live.seek_judge_of p now e₀.span t.gap))
       unfolding live.seek_judge_of search.judged_search
       judge-cases =

@@ -1,5 +1,6 @@
 -- Demand 3 of every list: record and books stay together from event to event, and each clause holds along the list.
 -- Assumes nothing.
+use Rattle.std.specs.Prelude.{Err}
 use Prim.Native.Nat.{ℕ, zero, suc, ◌≤◌, ◌<◌, ◌^◌}
 use mathlib.Core.Bool.{Bool, true, false, ◌&&◌, ◌||◌, cond}
 use mathlib.Core.Path.{◌≡◌, refl, ap, sym, ◌∙◌, subst}
@@ -16,7 +17,9 @@ use Rattle.base.proofs.BookLaws.{holds_kept}
 use Rattle.base.proofs.RefusalLaws.{number-some}
 use Rattle.ring.specs.Ring.{no_sent, is_used}
 use Rattle.select.specs.Choice.{picked_of}
-use Rattle.rules.specs.Event.{Kind, Answer, Search, Judge, Choose, kind_number, is, number_of, value_of}
+use Rattle.rules.specs.Event.{kind_number, is, number_of, value_of}
+use Rattle.rules.specs.declared.types.Kind.{Kind}
+use Rattle.rules.specs.declared.types.Kind.TheVariants.{Answer, Search, Judge, Choose}
 use Rattle.rules.specs.Rules.{empty_slot, turn, on_slot}
 use Rattle.rules.specs.Step.{Entry, fresh_record, allowed, slot_at, put, rivals_at, margin_of, choice_of, step, run, trace}
 use Rattle.rules.specs.Book.{Book, Books, new_book, no_marks, noted, blanks, note, note_all, answer_says, judge_says}
@@ -46,13 +49,13 @@ get_d_past (s ∷ l) (suc k) h = get_d_past l k (omega arith)
 
 -- a slot above 7 is refused
 beyond : (t : Settings) (s : Slot) (e : Event) → ltb 7 e.slot ≡ true → (why : Refusal)
-    × (on_slot t s e ≡ turn s s.path (reply.Refused why))
+    × (on_slot t s e ≡ turn s s.path (Err why))
 unfolding on_slot
 beyond t s e q =
-    cond_cases (λ (u : Turn). (why : Refusal) × (u ≡ turn s s.path (reply.Refused why)))
+    cond_cases (λ (u : Turn). (why : Refusal) × (u ≡ turn s s.path (Err why)))
     (ltb e.kind 1 || ltb 15 e.kind) _ _
     (λ f. (refusal.Kind, refl))
-    (λ f. cond_cases (λ (u : Turn). (why : Refusal) × (u ≡ turn s s.path (reply.Refused why))) (ltb 7 e.slot) _ _
+    (λ f. cond_cases (λ (u : Turn). (why : Refusal) × (u ≡ turn s s.path (Err why))) (ltb 7 e.slot) _ _
     (λ g. (refusal.Slot, refl))
     (λ g. never q g))
 

@@ -1,9 +1,10 @@
 -- Document 02, T-09, "Due before sent", as a claim about every list of events and its answers: "Such a probe lapses on the
 -- spot and spoils the miss count. The record shall refuse it."
-use Rattle.std.specs.Prelude.{ℕ, ◌≤◌, ◌<◌, true, false, List, ◌≡◌}
+use Rattle.std.specs.Prelude.{ℕ, ◌≤◌, ◌<◌, true, false, List, ◌≡◌, Err}
 use Rattle.base.specs.Limits.{is_overlong}
 use Rattle.base.specs.declared.types.Refusal.TheVariants as refusal
-use Rattle.rules.specs.Event.{Probe, is}
+use Rattle.rules.specs.Event.{is}
+use Rattle.rules.specs.declared.types.Kind.TheVariants.{Probe}
 use Rattle.rules.specs.Step.{slot_at, step}
 use Rattle.rules.specs.Book.{Wait}
 use Rattle.rules.specs.Demand3.{Clause, Every, Accepted, Always, book_after}
@@ -30,7 +31,7 @@ pub record Dues (t : Settings) (es : List Event) : Type 0 where
 abbrev pub Refuses : Record → Event → Type 0
 Refuses r e =
     is Probe e ≡ true → e.slot ≤ 7 → (slot_at r e.slot).used ≡ true → is_overlong e.len ≡ false → e.span < e.now
-    → step r e ≡ record { next = r; reply = reply.Refused refusal.Due }
+    → step r e ≡ record { next = r; reply = Err refusal.Due }
 
 -- for every list, with any settings and any number of draws
 abbrev pub DuesHold : Type 0

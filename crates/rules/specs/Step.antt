@@ -1,20 +1,19 @@
 -- The record, one event on it, and a list of events (document 01, "Peer record": "each event gets the record that the
 -- last one returned or, refused, left").
-use Rattle.std.specs.Prelude.{ℕ, suc, Bool, false, not, cond, List, [], ◌∷◌, Float, get_or, set, replicate}
+use Rattle.base.specs.declared.types.Refusal.{Refusal}
+use Rattle.std.specs.Prelude.{ℕ, suc, Bool, false, not, cond, List, [], ◌∷◌, Float, get_or, set, replicate, Option, None, Some, Result, Ok, Err, is_some, unwrap_or}
 use Rattle.std.specs.Float.{nan, inf, fin, binary64}
 use Rattle.std.specs.Float.Ieee.{of_bits, le}
 use Rattle.base.specs.Limits.{is_endless}
-use Rattle.base.specs.Seq.{every}
+use Rattle.std.specs.List.{list_all}
 use Rattle.base.specs.declared.types.Refusal.TheVariants as refusal
 use Rattle.rtt.specs.Spans.{base_rtt}
-use Rattle.base.specs.Missing.{is_timed, time_or_zero}
-use Rattle.scores.specs.Scores.{path_score, path_steady, score_in, is_scored}
+use Rattle.scores.specs.Scores.{path_score, path_steady, score_in}
 use Rattle.select.specs.Media.{tier_of}
 use Rattle.select.specs.Choice.{picked_of}
 use Rattle.select.specs.declared.types.Rival.{Rival}
-use Rattle.select.specs.declared.types.MaybeRival.{MaybeRival}
-use Rattle.select.specs.declared.types.MaybeRival.TheVariants as rival
-use Rattle.rules.specs.Event.{Choose, is, number_of, value_of}
+use Rattle.rules.specs.Event.{is, number_of, value_of}
+use Rattle.rules.specs.declared.types.Kind.TheVariants.{Choose}
 use Rattle.rules.specs.Rules.{empty_slot, on_slot}
 use Rattle.rules.specs.declared.types.Settings.{Settings}
 use Rattle.rules.specs.declared.types.Event.{Event}
@@ -27,14 +26,14 @@ use Rattle.rules.specs.declared.types.Stepped.{Stepped}
 
 -- "Settings: cap, gap, window, horizon; with one of 2^62 or more, no record is made (6)"
 abbrev pub allowed : Settings → Bool
-allowed t = every (λ d. not (is_endless d)) (t.cap ∷ t.gap ∷ t.window ∷ t.horizon ∷ [])
+allowed t = list_all (λ d. not (is_endless d)) (t.cap ∷ t.gap ∷ t.window ∷ t.horizon ∷ [])
 
 -- eight empty slots
 abbrev pub fresh_record : Settings → Record
 fresh_record t = record { settings = t; slots = replicate 8 empty_slot }
 
 unfoldable pub record_of : Settings → Stepped
-record_of t = record { next = fresh_record t; reply = cond (allowed t) reply.Nothing (reply.Refused refusal.Duration) }
+record_of t = record { next = fresh_record t; reply = cond (allowed t) (Ok reply.Nothing) (Err refusal.Duration) }
 
 -- the slot with a number, of a list of slots and of a record, and the record with that slot changed
 abbrev pub slot_with : List Slot → ℕ → Slot
@@ -52,15 +51,15 @@ rival_of i s =
     record {
       score = score_in (path_score s.path);
       steady = score_in (path_steady s.path);
-      rtt = time_or_zero s.path.rtts.rtt;
-      base = time_or_zero (base_rtt s.path.rtts.spans);
+      rtt = unwrap_or s.path.rtts.rtt 0;
+      base = unwrap_or (base_rtt s.path.rtts.spans) 0;
       index = i;
       tier = tier_of s.label.role;
       held = s.used;
-      scored = is_scored (path_score s.path);
-      steadied = is_scored (path_steady s.path);
-      timed = is_timed s.path.rtts.rtt;
-      based = is_timed (base_rtt s.path.rtts.spans);
+      scored = is_some (path_score s.path);
+      steadied = is_some (path_steady s.path);
+      timed = is_some s.path.rtts.rtt;
+      based = is_some (base_rtt s.path.rtts.spans);
       preferred = s.label.preferred;
       pinned = s.label.pinned;
       fits = s.label.fits;
@@ -82,16 +81,16 @@ abbrev pub margin_of : Event → Float
 margin_of e = of_bits binary64 e.span
 
 -- the slot that the choice takes; "11: no path open"
-abbrev pub choice_reply : MaybeRival → Reply
-choice_reply (rival.Some r) = reply.Chosen r.index
-choice_reply rival.None = reply.Refused refusal.NoPath
+abbrev pub choice_reply : Option Rival → Result Reply Refusal
+choice_reply (Some r) = Ok (reply.Chosen r.index)
+choice_reply None = Err refusal.NoPath
 
 unfoldable pub choice_of : Record → Event → Stepped
 choice_of r e =
     record {
       next = r;
       reply = cond (is_margin (margin_of e))
-          (choice_reply (picked_of (rivals_at 0 r.slots) (margin_of e))) (reply.Refused refusal.Margin);
+          (choice_reply (picked_of (rivals_at 0 r.slots) (margin_of e))) (Err refusal.Margin);
     }
 
 -- one event: "Choose reads no slot"; all others do their work on one

@@ -1,4 +1,7 @@
 // What a peer record is made of, what happens to it, and what is answered.
+ghost use Rattle.std.specs.Prelude.{◌≡◌};
+ghost use Rattle.rules.specs.Event.{kind_of};
+
 use base::types::Refusal;
 use live::types::Liveness;
 use select::types::*;
@@ -26,6 +29,54 @@ pub struct Event {
     pub flags: u8,
 }
 
+// The fifteen kinds of event, in the order of their numbers.
+#[derive(Clone, Copy, Debug, PartialEq, Eq)]
+pub enum Kind {
+    Open,
+    Probe,
+    Answer,
+    Poll,
+    Sample,
+    Fold,
+    Prove,
+    Search,
+    Judge,
+    Data,
+    Fresh,
+    Thaw,
+    Sweep,
+    Close,
+    Choose,
+}
+
+impl TryFrom<u8> for Kind {
+    type Error = Refusal;
+
+    ghost try_from_gives = { λ n r. r ≡ kind_of n };
+
+    // The kind of a number; 15 for one that has none.
+    fn try_from(n: u8) -> Result<Kind, Refusal> {
+        match n {
+            1 => Ok(Kind::Open),
+            2 => Ok(Kind::Probe),
+            3 => Ok(Kind::Answer),
+            4 => Ok(Kind::Poll),
+            5 => Ok(Kind::Sample),
+            6 => Ok(Kind::Fold),
+            7 => Ok(Kind::Prove),
+            8 => Ok(Kind::Search),
+            9 => Ok(Kind::Judge),
+            10 => Ok(Kind::Data),
+            11 => Ok(Kind::Fresh),
+            12 => Ok(Kind::Thaw),
+            13 => Ok(Kind::Sweep),
+            14 => Ok(Kind::Close),
+            15 => Ok(Kind::Choose),
+            _ => Err(Refusal::Kind),
+        }
+    }
+}
+
 // The answer of an event: an identifier; in time, late, or the search probe's; a number of probes; lost now, or not; a
 // slot; nothing to say; or a refusal.
 #[derive(Clone, Copy)]
@@ -39,7 +90,6 @@ pub enum Reply {
     Waits,
     Chosen(usize),
     Nothing,
-    Refused(Refusal),
 }
 
 // The weights of an open's flag bits: its role's lower bit, pinned, fits, preferred; its medium is the lowest two.
@@ -62,7 +112,7 @@ pub struct Label {
     pub role: Role,
 }
 
-// A slot, empty or with a path and what its open said of it.
+// A slot, empty or with a path and what its open said of it. `used` is a mark and no `Option`, as in ring's `Sent`.
 #[derive(Clone, Copy)]
 pub struct Slot {
     pub path: Liveness,
@@ -81,14 +131,14 @@ pub struct Record {
 #[derive(Clone, Copy)]
 pub struct Turn {
     pub slot: Slot,
-    pub reply: Reply,
+    pub reply: Result<Reply, Refusal>,
 }
 
 // What an event makes of the record, and its answer.
 #[derive(Clone, Copy)]
 pub struct Stepped {
     pub next: Record,
-    pub reply: Reply,
+    pub reply: Result<Reply, Refusal>,
 }
 
 // What a poll makes of a path, and how many probes lapsed.

@@ -1,3 +1,2 @@
 -- Laws that the proofs of a script's functions cite.
 mod RunLaws
-mod Keys

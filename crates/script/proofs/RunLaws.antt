@@ -13,7 +13,7 @@ use Rattle.base.proofs.Cases.{on-order}
 use Rattle.base.specs.Refusals.{refusal_number}
 use Rattle.base.specs.declared.types.Refusal.TheVariants.{Cut, Lent}
 use Rattle.octets.specs.Octets.{le, flat, words_of, over}
-use Rattle.octets.proofs.Fill.{Filled, fill, filled-over, filled-length, flat-length, flat_append, le-length, over-fits, over-not, nothing}
+use Rattle.octets.proofs.Fill.{Filled, fill, filled-over, flat-length, flat_append, le-length, over-fits, over-not, nothing}
 use Rattle.image.specs.Image.{image_of}
 use Rattle.live.specs.New.{new_liveness}
 use Rattle.live.specs.declared.types.Liveness.{Liveness}
@@ -44,15 +44,6 @@ running-start {s} {l} {p} h k e =
       answers = rw e;
       final = rw e;
     }
-
-pub running-room : {s l₀ l : List ℕ} {p : Liveness} {at : ℕ} → Running s l₀ l p at → at < length s → at + 48 + 1800 ≤ length l
-running-room {s} {l₀} {l} {p} {at} r h = omega (arith, r.long, r.room, filled-length r.filled)
-
-pub running-end : {s l₀ l : List ℕ} {p : Liveness} {at : ℕ} → Running s l₀ l p at → length s ≤ at → at + 1800 ≤ length l
-running-end {s} {l₀} {l} {p} {at} r h = omega (arith, r.long, r.room, filled-length r.filled)
-
-pub running-fits : {s l₀ l : List ℕ} {p : Liveness} {at : ℕ} → Running s l₀ l p at → at < length s → at + 48 ≤ length s
-running-fits {s} {l₀} {l} {p} {at} r h = omega (arith, r.long)
 
 -- the tail of a script, as a part of it is lent
 pub tail_from : (s : List ℕ) (at : ℕ) → mid_of at (length s - at) s ≡ drop at s

@@ -29,22 +29,17 @@ pub fn run_script(script: &[u8], out: &mut [u8]) -> u64
     if script.len() % 48 != 0 {
         return Refusal::Cut.number();
     }
-    if out.len() < 1800 {
-        return Refusal::Lent.number();
-    }
-    if out.len() - 1800 < script.len() {
+    if out.len() < 1800 || out.len() - 1800 < script.len() {
         return Refusal::Lent.number();
     }
     let mut path = Liveness::new();
-    let mut at = 0;
-    while at < script.len() {
-        let c = call_from(&script[at..]);
-        let done = call(path, c);
-        let words = done.words;
-        octets::put_words(&mut out[at..], &words);
+    let calls = script.len() / 48;
+    for i in 0..calls {
+        let at = 48 * i;
+        let done = call(path, call_from(&script[at..]));
+        octets::put_words(&mut out[at..], &done.words);
         path = done.path;
-        at += 48;
     }
-    image::write_image(&mut out[at..], path);
+    image::write_image(&mut out[48 * calls..], path);
     0
 }

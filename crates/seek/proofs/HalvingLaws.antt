@@ -1,11 +1,11 @@
 -- The halving of the gap between proven and lost: a proposed size lies strictly between them, and either outcome leaves
 -- at most half of the gap, rounded up.
 -- Assumes nothing.
+use Rattle.std.specs.Prelude.{Some}
 use mathlib.Core.Path.{◌≡◌}
 use Prim.Native.Nat.{ℕ, ◌+◌, ◌-◌, ◌*◌, ◌/◌, ◌<◌, ◌≤◌}
 use native.Mathlib.Omega.{arith}
 use borrow.Author.Tests.{lt-ltb, ne_eqb}
-use Rattle.base.specs.declared.types.MaybeLen.TheVariants.{Some}
 use Rattle.seek.specs.Rules.{proposal_of}
 
 -- a size that halves the gap between proven and lost

@@ -1,10 +1,8 @@
 -- The ladder (document 01, "Ring (8) and late list (4)"): "`size(full)`: full unless fallen with a last size; then
 -- after a last size of 27 or less, full; else the first of full, 3/4, 1/2 (rounded down) that is below the last and
 -- above 27; else 27."
-use Rattle.std.specs.Prelude.{Bool, cond, ◌&&◌, List, [], ◌∷◌, map, ℕ, ◌*◌, ◌/◌, ltb, leb}
+use Rattle.std.specs.Prelude.{Bool, cond, ◌&&◌, List, [], ◌∷◌, map, ℕ, ◌*◌, ◌/◌, ltb, leb, Option, None, Some}
 use Rattle.base.specs.Limits.{min_len}
-use Rattle.base.specs.declared.types.MaybeLen.{MaybeLen}
-use Rattle.base.specs.declared.types.MaybeLen.TheVariants.{None, Some}
 use Rattle.seek.specs.declared.types.Ladder.{Ladder}
 
 -- "below the last and above 27"
@@ -29,7 +27,7 @@ unfoldable pub rung_of : ℕ → ℕ → ℕ
 rung_of full last = cond (leb last min_len) full (first_fit last (rungs full))
 
 -- with a last size the next of the ladder, without one full
-abbrev pub after_last : ℕ → MaybeLen → ℕ
+abbrev pub after_last : ℕ → Option ℕ → ℕ
 after_last full None = full
 after_last full (Some last) = rung_of full last
 

@@ -2,9 +2,6 @@
 ghost use Rattle.std.specs.Prelude.{◌≡◌};
 ghost use Rattle.seek.specs.Search.{new_seek};
 
-use base::limits::PATH_PROBE_MIN_SIZE;
-use base::types::*;
-
 // The search ends once the largest size proven and the smallest lost lie within so many bytes.
 pub const SEEK_STEP: u32 = 32;
 
@@ -12,10 +9,10 @@ pub const SEEK_STEP: u32 = 32;
 pub const SEEK_RAISE: u64 = 600_000_000_000;
 
 // A search: with a probe out its send instant, else the next try (none: at once); its identifier; its length, 0 with
-// none out; the smallest size lost, 0 with none lost.
+// none out; the smallest size lost, 0 with none lost: the rules of specs/Rules.antt read a size of 0 as none.
 #[derive(Clone, Copy)]
 pub struct Seek {
-    pub at: MaybeTime,
+    pub at: Option<u64>,
     pub probe_id: u32,
     pub len: u16,
     pub lost: u16,
@@ -23,11 +20,11 @@ pub struct Seek {
 
 impl Seek {
     // A search not started.
-    pub fn new() -> Seek
+    pub fn new() -> Self
         ensures { result ≡ new_seek }
     {
         Seek {
-            at: MaybeTime::None,
+            at: None,
             probe_id: 0,
             len: 0,
             lost: 0,
@@ -39,13 +36,13 @@ impl Seek {
 #[derive(Clone, Copy)]
 pub struct Sizes {
     pub seek: Seek,
-    pub proven: MaybeLen,
+    pub proven: Option<u16>,
 }
 
 // The last size sent in this state, and whether a probe above the smallest size has lapsed in it.
 #[derive(Clone, Copy)]
 pub struct Ladder {
-    pub last: MaybeLen,
+    pub last: Option<u16>,
     pub fallen: bool,
 }
 
@@ -53,10 +50,11 @@ pub struct Ladder {
 #[derive(Clone, Copy)]
 pub struct Settled {
     pub sizes: Sizes,
-    pub len: MaybeLen,
+    pub len: Option<u16>,
 }
 
-// Of an acknowledgement: the sizes after it, and whether the proven size rose.
+// Of an acknowledgement: the sizes after it, and whether the proven size rose. It, the judgement and the proof are
+// three types, since the flag's name says what it means.
 #[derive(Clone, Copy)]
 pub struct Proved {
     pub sizes: Sizes,

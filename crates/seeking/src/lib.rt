@@ -7,89 +7,67 @@ ghost use Rattle.seek.specs.Search.{search_size, sent_search, next_search, later
 use base::limits::PATH_PROBE_MIN_SIZE;
 use base::serial::after;
 use base::time::deadline;
-use base::types::*;
 use seek::sizing::*;
-use seek::types::*;
+use seek::types::{Judged, Proved, Proving, SEEK_RAISE, Seek, Settled, Sizes};
 
-// The length of the next search probe, if one may go now.
-pub fn seek_size(s: Sizes, full: u16, now: u64) -> MaybeLen
+// The length of the next search probe, if one may go now. `let .. else` is document 01's form for it.
+#[tactic(auto, unfolding(seek::specs::Search::search_size))]
+pub fn seek_size(s: Sizes, full: u16, now: u64) -> Option<u16>
     ensures { result ≡ search_size s full now }
 {
-    let seek = s.seek;
-    if seek.len != 0 {
-        return MaybeLen::None;
+    if s.seek.len != 0 {
+        return None;
     }
-    let proven = s.proven;
-    let MaybeLen::Some(size) = proven else {
-        return MaybeLen::None;
+    let Some(size) = s.proven else {
+        return None;
     };
-    let next = seek.at;
-    let MaybeTime::Some(at) = next else {
-        return proposal(seek.lost, size, full);
+    let Some(at) = s.seek.at else {
+        return proposal(s.seek.lost, size, full);
     };
     if now < at {
-        return MaybeLen::None;
+        return None;
     }
-    proposal(seek.lost, size, full)
+    proposal(s.seek.lost, size, full)
 }
 
 // A search probe of `len` bytes is out from `at` on, under this identifier.
+#[tactic(auto, unfolding(seek::specs::Search::sent_search))]
 pub fn seek_send(s: Sizes, at: u64, len: u16, id: u32) -> Sizes
     ensures { result ≡ sent_search s at len id }
 {
-    let old = s.seek;
-    let proven = s.proven;
     let seek = Seek {
-        at: MaybeTime::Some(at),
+        at: Some(at),
         probe_id: id,
-        len: len,
-        lost: old.lost,
+        len,
+        ..s.seek
     };
-    Sizes {
-        seek: seek,
-        proven: proven,
-    }
+    Sizes { seek, ..s }
 }
 
 // The next search probe may go `gap` after `at`; all else stays. For a search probe that is held in the ring.
-pub fn seek_next(s: Sizes, at: u64, gap: u64) -> Sizes
+#[tactic(auto, unfolding(seek::specs::Search::next_search))]
+pub fn seek_next(mut s: Sizes, at: u64, gap: u64) -> Sizes
     ensures { result ≡ next_search s at gap }
 {
-    let old = s.seek;
-    let proven = s.proven;
-    let seek = Seek {
-        at: MaybeTime::Some(deadline(at, gap)),
-        probe_id: old.probe_id,
-        len: old.len,
-        lost: old.lost,
-    };
-    Sizes {
-        seek: seek,
-        proven: proven,
-    }
+    s.seek.at = Some(deadline(at, gap));
+    s
 }
 
 // The instant `gap` later, if there is one.
-fn later(at: MaybeTime, gap: u64) -> MaybeTime
+fn later(at: Option<u64>, gap: u64) -> Option<u64>
     ensures { result ≡ later_of at gap }
 {
-    let MaybeTime::Some(t) = at else {
-        return MaybeTime::None;
-    };
-    MaybeTime::Some(deadline(t, gap))
+    at.map(|t| deadline(t, gap))
 }
 
 // The probe that was out is taken: the next may go `gap` after it was sent.
 fn unseek(seek: Seek, gap: u64) -> Seek
     ensures { result ≡ settled_of seek gap }
 {
-    let at = seek.at;
-    let next = later(at, gap);
     Seek {
-        at: next,
-        probe_id: seek.probe_id,
+        at: later(seek.at, gap),
         len: 0,
-        lost: seek.lost,
+        ..seek
     }
 }
 
@@ -101,10 +79,9 @@ fn end(seek: Seek, proven: u16, now: u64) -> Seek
         return seek;
     }
     Seek {
-        at: MaybeTime::Some(deadline(now, SEEK_RAISE)),
-        probe_id: seek.probe_id,
-        len: seek.len,
+        at: Some(deadline(now, SEEK_RAISE)),
         lost: 0,
+        ..seek
     }
 }
 
@@ -112,123 +89,96 @@ fn end(seek: Seek, proven: u16, now: u64) -> Seek
 fn lose_size(seek: Seek, proven: u16, len: u16, now: u64) -> Seek
     ensures { result ≡ lose_of seek proven len now }
 {
-    let at = seek.at;
     let less = Seek {
-        at: at,
-        probe_id: seek.probe_id,
-        len: seek.len,
         lost: lose(seek.lost, len),
+        ..seek
     };
     end(less, proven, now)
 }
 
 // Settles the search probe if the identifier is that of the one out.
+#[tactic(auto, unfolding(seek::specs::Search::settled_search))]
 pub fn seek_answer(s: Sizes, id: u32, gap: u64) -> Settled
     ensures { result ≡ settled_search s id gap }
 {
-    let seek = s.seek;
-    let proven = s.proven;
-    if (seek.len == 0) | (seek.probe_id != id) {
+    if s.seek.len == 0 || s.seek.probe_id != id {
         return Settled {
             sizes: s,
-            len: MaybeLen::None,
+            len: None,
         };
     }
-    let sizes = Sizes {
-        seek: unseek(seek, gap),
-        proven: proven,
-    };
     Settled {
-        sizes: sizes,
-        len: MaybeLen::Some(seek.len),
+        sizes: Sizes {
+            seek: unseek(s.seek, gap),
+            ..s
+        },
+        len: Some(s.seek.len),
     }
 }
 
 // An acknowledgement of `acked` bytes for a search probe of `sent`.
+#[tactic(auto, unfolding(seek::specs::Search::acked_search))]
 pub fn seek_proved(s: Sizes, sent: u16, acked: u16, now: u64) -> Proved
     ensures { result ≡ acked_search s sent acked now }
 {
-    let seek = s.seek;
-    let old = s.proven;
-    let size = base::num::min_u16(sent, acked);
-    let raised = rises(old, size);
-    let proven = raise(old, size);
-    if acked < sent {
-        let sizes = Sizes {
-            seek: lose_size(seek, known(proven), sent, now),
-            proven: proven,
-        };
-        return Proved {
-            sizes: sizes,
-            raised: raised,
-        };
-    }
-    let sizes = Sizes {
-        seek: end(seek, known(proven), now),
-        proven: proven,
+    let size = sent.min(acked);
+    let proven = raise(s.proven, size);
+    let seek = if acked < sent {
+        lose_size(s.seek, known(proven), sent, now)
+    } else {
+        end(s.seek, known(proven), now)
     };
     Proved {
-        sizes: sizes,
-        raised: raised,
+        sizes: Sizes { seek, proven },
+        raised: rises(s.proven, size),
     }
 }
 
-// Whether a search probe sent at `at` is lost now: its timeout has passed, and one sent after it was answered.
-fn is_lost(at: u64, id: u32, answered: MaybeId, now: u64, timeout: u64) -> bool
+// Whether a search probe sent at `at` is lost now: its timeout has passed, and one sent after it was answered. The
+// order is asked first: the other way round the check finds no proof.
+fn is_lost(at: u64, id: u32, answered: Option<u32>, now: u64, timeout: u64) -> bool
     ensures { result ≡ lost_now at id answered now timeout }
 {
-    let MaybeId::Some(a) = answered else {
-        return false;
-    };
-    (deadline(at, timeout) <= now) & after(a, id)
+    answered.is_some_and(|a| after(a, id)) && deadline(at, timeout) <= now
 }
 
 // The search probe that is out is lost, with this size for the proven one: the search goes on below it.
 pub fn drop_out(s: Sizes, proven: u16, now: u64, gap: u64) -> Judged
     ensures { result ≡ drop_of s proven now gap }
 {
-    let seek = s.seek;
-    let kept = s.proven;
-    let free = unseek(seek, gap);
-    let sizes = Sizes {
-        seek: lose_size(free, proven, seek.len, now),
-        proven: kept,
-    };
+    let seek = lose_size(unseek(s.seek, gap), proven, s.seek.len, now);
     Judged {
-        sizes: sizes,
+        sizes: Sizes { seek, ..s },
         lost: true,
     }
 }
 
 // Whether the search probe that is out is lost now.
-pub fn judges(seek: Seek, answered: MaybeId, now: u64, timeout: u64) -> bool
+pub fn judges(seek: Seek, answered: Option<u32>, now: u64, timeout: u64) -> bool
     ensures { result ≡ judges_of seek seek.at answered now timeout }
 {
-    let next = seek.at;
-    let MaybeTime::Some(at) = next else {
-        return false;
-    };
-    (seek.len != 0) & is_lost(at, seek.probe_id, answered, now, timeout)
+    seek.len != 0
+        && seek
+            .at
+            .is_some_and(|at| is_lost(at, seek.probe_id, answered, now, timeout))
 }
 
 // Judges the search probe that is out: it is lost, or it waits.
-pub fn seek_judge(s: Sizes, answered: MaybeId, now: u64, timeout: u64, gap: u64) -> Judged
+#[tactic(auto, unfolding(seek::specs::Search::judged_search))]
+pub fn seek_judge(s: Sizes, answered: Option<u32>, now: u64, timeout: u64, gap: u64) -> Judged
     ensures { result ≡ judged_search s answered now timeout gap }
 {
-    let seek = s.seek;
     let waits = Judged {
         sizes: s,
         lost: false,
     };
-    let next = seek.at;
-    let MaybeTime::Some(at) = next else {
+    let Some(at) = s.seek.at else {
         return waits;
     };
-    if (seek.len == 0) | !is_lost(at, seek.probe_id, answered, now, timeout) {
+    if s.seek.len == 0 || !is_lost(at, s.seek.probe_id, answered, now, timeout) {
         return waits;
     }
-    let proven = s.proven;
-    let MaybeLen::Some(size) = proven else {
+    let Some(size) = s.proven else {
         return drop_out(s, PATH_PROBE_MIN_SIZE, now, gap);
     };
     drop_out(s, size, now, gap)
@@ -238,21 +188,12 @@ pub fn seek_judge(s: Sizes, answered: MaybeId, now: u64, timeout: u64, gap: u64)
 pub fn prove(s: Sizes, len: u16) -> Proving
     ensures { result ≡ proven_sizes s len }
 {
-    let seek = s.seek;
-    let old = s.proven;
-    let sizes = Sizes {
-        seek: seek,
-        proven: MaybeLen::Some(len),
-    };
-    let MaybeLen::Some(size) = old else {
-        return Proving {
-            sizes: sizes,
-            changed: true,
-        };
-    };
     Proving {
-        sizes: sizes,
-        changed: size != len,
+        sizes: Sizes {
+            proven: Some(len),
+            ..s
+        },
+        changed: s.proven != Some(len),
     }
 }
 
@@ -260,9 +201,8 @@ pub fn prove(s: Sizes, len: u16) -> Proving
 pub fn fresh_sizes(s: Sizes) -> Sizes
     ensures { result ≡ fresh_sizes s }
 {
-    let stays = s.proven;
     Sizes {
         seek: Seek::new(),
-        proven: stays,
+        ..s
     }
 }

@@ -4,17 +4,17 @@
 use mathlib.Core.Path.{◌≡◌, refl, ap, ◌∙◌}
 use mathlib.Core.Bool.{Bool, not}
 use mathlib.Core.List.{List, [], ◌∷◌, map}
-use Rattle.base.specs.Seq.{every, keep}
+use Rattle.std.specs.List.{list_all, filter}
 use Rattle.base.specs.First.{head_of, unbeaten, first_of}
 use Rattle.base.proofs.Cases.{on-flag}
 
 module _ {A B : Type 0} (s : A → B) where
   module _ (p : B → Bool) (q : A → Bool) (same : (x : A) → p (s x) ≡ q x) where
-    pub every_map : (l : List A) → every p (map s l) ≡ every q l
+    pub every_map : (l : List A) → list_all p (map s l) ≡ list_all q l
     every_map [] = refl
     every_map (x ∷ l) = rw (same x) (on-flag (q x) (λ h. rw h (every_map l)) (λ h. rw h))
 
-    pub keep-map : (l : List A) → keep p (map s l) ≡ map s (keep q l)
+    pub keep-map : (l : List A) → filter p (map s l) ≡ map s (filter q l)
     keep-map [] = refl
     keep-map (x ∷ l) =
         rw (same x)
@@ -25,7 +25,7 @@ module _ {A B : Type 0} (s : A → B) where
     unbeaten-map l x = every_map (λ (y : B). not (before y (s x))) (λ (y : A). not (order y x)) (λ y. ap not (same y x)) l
 
     -- those that none comes before
-    pub firsts-map : (l : List A) → keep (unbeaten before (map s l)) (map s l) ≡ map s (keep (unbeaten order l) l)
+    pub firsts-map : (l : List A) → filter (unbeaten before (map s l)) (map s l) ≡ map s (filter (unbeaten order l) l)
     firsts-map l = keep-map (unbeaten before (map s l)) (unbeaten order l) (λ x. unbeaten-map l x) l
 
     -- the first of them, where f makes of what is found before the change what is found behind it
@@ -33,7 +33,7 @@ module _ {A B : Type 0} (s : A → B) where
         → ((x : A) → other (s x) ≡ f (some x)) → (l : List A)
         → first_of before (f none) other (map s l) ≡ f (first_of order none some l)
     first-map f none some other h l =
-        ap (head_of (f none) other) (firsts-map l) ∙ head-map (keep (unbeaten order l) l)
+        ap (head_of (f none) other) (firsts-map l) ∙ head-map (filter (unbeaten order l) l)
       where
         head-map : (m : List A) → head_of (f none) other (map s m) ≡ f (head_of none some m)
         head-map [] = refl

@@ -3,6 +3,7 @@
 -- index. And of every choice: with a score among the ranked the picked one is the best or near it, else the first by
 -- RTT.
 -- Assumes nothing.
+use Rattle.std.specs.Prelude.{Option, None, Some}
 use Prim.Native.Nat.{ℕ, ◌≤◌}
 use mathlib.Core.Path.{◌≡◌, refl, subst}
 use mathlib.Core.Bool.{Bool, true, false, not, ◌&&◌, ◌||◌}
@@ -12,7 +13,7 @@ use native.Mathlib.Omega.{arith}
 use borrow.Author.Tests.{lt-ltb, le-ltb, ltb-false, eq-eqb}
 use lib.Dec.{ltb, eqb}
 use lib.Ieee.{Float, le}
-use Rattle.base.specs.Seq.{every, keep}
+use Rattle.std.specs.List.{list_all, filter}
 use Rattle.base.proofs.Cases.{on-order, never}
 use Rattle.base.proofs.KeepLaws.{every-keep, keep-passes, keep-keep}
 use Rattle.base.proofs.FirstLaws.{Strict, First, first-over, first_passes, first-cases}
@@ -34,8 +35,6 @@ use Rattle.select.specs.Choice.{
 }
 use Rattle.select.specs.declared.types.Medium.{Medium}
 use Rattle.select.specs.declared.types.Rival.{Rival}
-use Rattle.select.specs.declared.types.MaybeRival.{MaybeRival}
-use Rattle.select.specs.declared.types.MaybeRival.TheVariants.{None, Some}
 use Rattle.select.proofs.OrderLaws.{score-strict, medium-strict, trip-strict}
 
 -- x stands in the list
@@ -54,7 +53,7 @@ some_one q r e = cc
 pub first_by_lem : {before : Rival → Rival → Bool} → Strict before → (l : List Rival) (r : Rival)
     → first_by before l ≡ Some r → First before l r
 first_by_lem {before} order l r =
-    first-cases order None Some (λ (f : MaybeRival). f ≡ Some r → First before l r) l
+    first-cases order None Some (λ (f : Option Rival). f ≡ Some r → First before l r) l
     (λ h e. none-some r e)
     (λ x f e. let z : x ≡ r = cc in subst (First before l) z f)
 
@@ -93,11 +92,11 @@ best-is l r e =
 
 module _ (limit : Float) (l : List Rival) where
   -- what is near has a score, of at most the limit
-  near-scored : every (λ r. r.scored) (near_of limit l) ≡ true
+  near-scored : list_all (λ r. r.scored) (near_of limit l) ≡ true
   near-scored = every-keep (λ (r : Rival). r.scored) (λ (r : Rival). le r.score limit) (scored_of l)
       (keep-passes (λ (r : Rival). r.scored) l)
 
-  near_within : every (λ r. le r.score limit) (near_of limit l) ≡ true
+  near_within : list_all (λ r. le r.score limit) (near_of limit l) ≡ true
   near_within = keep-passes (λ (r : Rival). le r.score limit) (scored_of l)
 
 -- near the best
@@ -107,7 +106,7 @@ pub record Near (limit : Float) (r : Rival) : Type 0 where
 
 -- the first of a list that was kept of those near, by any order
 kept_near : (limit : Float) (l : List Rival) (q : Rival → Bool) {before : Rival → Rival → Bool} {r : Rival}
-    → First before (keep q (near_of limit l)) r → Near limit r
+    → First before (filter q (near_of limit l)) r → Near limit r
 kept_near limit l q f =
     record {
       scored = first_passes (λ (x : Rival). x.scored) f (every-keep (λ (x : Rival). x.scored) q (near_of limit l)
@@ -211,25 +210,25 @@ quicker-preferred-is limit m l r e =
 
 -- where one of the ranked has a score, the picked one is the best or near it
 module _ (ranked : List Rival) (b : Rival) (limit : Float) where
-  after-preferred : (p r : Rival) (f : MaybeRival)
+  after-preferred : (p r : Rival) (f : Option Rival)
       → first_by by_medium (quick_of p.medium (preferred_of (near_of limit ranked))) ≡ f
       → Near limit p → or_else f p ≡ Some r → Near limit r
   after-preferred p r (Some q) e n h =
       subst (Near limit) (some_one q r h) (quicker-preferred-is limit p.medium ranked q e).near
   after-preferred p r None e n h = subst (Near limit) (some_one p r h) n
 
-  after-best : (r : Rival) (f : MaybeRival) → first_by by_medium (quick_of b.medium (near_of limit ranked)) ≡ f
+  after-best : (r : Rival) (f : Option Rival) → first_by by_medium (quick_of b.medium (near_of limit ranked)) ≡ f
       → or_else f b ≡ Some r
       → (b ≡ r) ⊎ Near limit r
   after-best r (Some q) e h = inr (subst (Near limit) (some_one q r h) (quicker-is limit b.medium ranked q e).near)
   after-best r None e h = inl (some_one b r h)
 
-  among-near : (r : Rival) (f : MaybeRival) → first_by by_score (preferred_of (near_of limit ranked)) ≡ f
+  among-near : (r : Rival) (f : Option Rival) → first_by by_score (preferred_of (near_of limit ranked)) ≡ f
       → quickest (near_of limit ranked) b f ≡ Some r → (b ≡ r) ⊎ Near limit r
   among-near r (Some p) e h = inr (after-preferred p r _ refl (preferred-is limit ranked p e).near h)
   among-near r None e h = after-best r _ refl h
 
-picked-from : {C : Type 0} (ranked : List Rival) (margin : Float) (r : Rival) (f : MaybeRival)
+picked-from : {C : Type 0} (ranked : List Rival) (margin : Float) (r : Rival) (f : Option Rival)
     → first_by by_score (scored_of ranked) ≡ f
     → among_ranked ranked margin f ≡ Some r
     → (First by_trip ranked r → C) → ((b : Rival) → Best (scored_of ranked) b → (b ≡ r) ⊎ Near (limit_of b margin) r → C)

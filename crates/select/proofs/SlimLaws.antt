@@ -1,10 +1,11 @@
 -- A choice reads no score over the horizon and no base RTT: among slim rivals it takes the same slot.
 -- Assumes nothing.
+use Rattle.std.specs.Prelude.{Option, None, Some}
 use mathlib.Core.Path.{◌≡◌, refl, ap, ◌∙◌}
 use mathlib.Core.Bool.{Bool, not, cond}
 use mathlib.Core.List.{List, map}
 use lib.Ieee.{Float, le}
-use Rattle.base.specs.Seq.{keep}
+use Rattle.std.specs.List.{filter}
 use Rattle.base.proofs.Cases.{on-flag}
 use Rattle.select.specs.Media.{quicker_of}
 use Rattle.select.specs.Rivals.{by_tier, by_score, by_medium, by_trip}
@@ -31,8 +32,6 @@ use Rattle.select.specs.Choice.{
 use Rattle.select.specs.Slim.{slim_of}
 use Rattle.select.specs.declared.types.Medium.{Medium}
 use Rattle.select.specs.declared.types.Rival.{Rival}
-use Rattle.select.specs.declared.types.MaybeRival.{MaybeRival}
-use Rattle.select.specs.declared.types.MaybeRival.TheVariants.{None, Some}
 use Rattle.select.proofs.MapLaws.{every_map, keep-map, firsts-map, first-map}
 
 -- ---- the choice among slim rivals
@@ -41,18 +40,18 @@ abbrev slims : List Rival → List Rival
 slims l = map slim_of l
 
 -- what is found, slim
-abbrev found : MaybeRival → MaybeRival
+abbrev found : Option Rival → Option Rival
 found None = None
 found (Some r) = Some (slim_of r)
 
 module _ (p : Rival → Bool) (same : (r : Rival) → p (slim_of r) ≡ p r) (l : List Rival) where
-  kept : keep p (slims l) ≡ slims (keep p l)
+  kept : filter p (slims l) ≡ slims (filter p l)
   kept = keep-map slim_of p p same l
 
   -- if any passes, only those that pass
   only : only_any p (slims l) ≡ slims (only_any p l)
   only =
-      ap (λ (t : Bool). cond t (slims l) (keep p (slims l)))
+      ap (λ (t : Bool). cond t (slims l) (filter p (slims l)))
       (every_map slim_of (λ (r : Rival). not (p r)) (λ (r : Rival). not (p r)) (λ r. ap not (same r)) l)
       ∙ on-flag (none_is p l) (λ h. rw h) (λ h. rw h kept)
 
@@ -61,7 +60,7 @@ first-slim : (before : Rival → Rival → Bool) → ((a b : Rival) → before (
     → first_by before (slims l) ≡ found (first_by before l)
 first-slim before same l = first-map slim_of before before same found None Some Some (λ r. refl) l
 
-or-slim : (f : MaybeRival) (r : Rival) → or_else (found f) (slim_of r) ≡ found (or_else f r)
+or-slim : (f : Option Rival) (r : Rival) → or_else (found f) (slim_of r) ≡ found (or_else f r)
 or-slim (Some a) r = refl
 or-slim None r = refl
 
@@ -77,7 +76,7 @@ ranked-slim l =
 
 near-slim : (limit : Float) (l : List Rival) → near_of limit (slims l) ≡ slims (near_of limit l)
 near-slim limit l =
-    ap (keep (λ (r : Rival). le r.score limit)) (kept (λ (r : Rival). r.scored) (λ r. refl) l)
+    ap (filter (λ (r : Rival). le r.score limit)) (kept (λ (r : Rival). r.scored) (λ r. refl) l)
     ∙ kept (λ (r : Rival). le r.score limit) (λ r. refl) (scored_of l)
 
 preferred-slim : (l : List Rival) → preferred_of (slims l) ≡ slims (preferred_of l)
@@ -89,10 +88,10 @@ quick-slim : (m : Medium) (l : List Rival) (r : Rival)
 quick-slim m l r =
     ap (λ (k : List Rival). or_else (first_by by_medium k) (slim_of r))
     (kept (λ (x : Rival). quicker_of x.medium m) (λ x. refl) l)
-    ∙ ap (λ (f : MaybeRival). or_else f (slim_of r)) (first-slim by_medium (λ a b. refl) (quick_of m l))
+    ∙ ap (λ (f : Option Rival). or_else f (slim_of r)) (first-slim by_medium (λ a b. refl) (quick_of m l))
     ∙ or-slim (first_by by_medium (quick_of m l)) r
 
-quickest-slim : (near : List Rival) (least : Rival) (f : MaybeRival)
+quickest-slim : (near : List Rival) (least : Rival) (f : Option Rival)
     → quickest (slims near) (slim_of least) (found f) ≡ found (quickest near least f)
 quickest-slim near least (Some p) =
     ap (λ (k : List Rival). or_else (first_by by_medium (quick_of p.medium k)) (slim_of p)) (preferred-slim near)
@@ -106,7 +105,7 @@ scored-slim near least =
     ∙ ap (quickest (slims near) (slim_of least)) (first-slim by_score (λ a b. refl) (preferred_of near))
     ∙ quickest-slim near least (first_by by_score (preferred_of near))
 
-among-slim : (ranked : List Rival) (margin : Float) (f : MaybeRival)
+among-slim : (ranked : List Rival) (margin : Float) (f : Option Rival)
     → among_ranked (slims ranked) margin (found f) ≡ found (among_ranked ranked margin f)
 among-slim ranked margin (Some least) =
     ap (λ (k : List Rival). among_scored k (slim_of least)) (near-slim (limit_of least margin) ranked)
@@ -122,7 +121,7 @@ picked-slim l margin =
     ∙ ap (among_ranked (slims (ranked_of l)) margin) (first-slim by_score (λ a b. refl) (scored_of (ranked_of l)))
     ∙ among-slim (ranked_of l) margin (first_by by_score (scored_of (ranked_of l)))
 
-slot-slim : (f : MaybeRival) → slot_of (found f) ≡ slot_of f
+slot-slim : (f : Option Rival) → slot_of (found f) ≡ slot_of f
 slot-slim (Some r) = refl
 slot-slim None = refl
 

@@ -1,12 +1,9 @@
 -- The largest frame that a path carries (the Rust's `carried` and `heeded`, whose bodies are the definition), with the
 -- refusal 5.
-use Rattle.std.specs.Prelude.{ℕ, ◌+◌, ◌-◌, min, Bool, not, cond}
+use Rattle.base.specs.declared.types.Refusal.{Refusal}
+use Rattle.std.specs.Prelude.{ℕ, ◌+◌, ◌-◌, min, Bool, not, cond, Option, None, Some, Result, Ok, Err}
 use Rattle.base.specs.Limits.{is_overlong}
 use Rattle.base.specs.declared.types.Refusal.TheVariants.{Length}
-use Rattle.base.specs.declared.types.MaybeLen.{MaybeLen}
-use Rattle.base.specs.declared.types.MaybeLen.TheVariants.{None, Some}
-use Rattle.select.specs.declared.types.SizeAnswer.{SizeAnswer}
-use Rattle.select.specs.declared.types.SizeAnswer.TheVariants as answers
 
 -- the Rust's ESTABLISHED_HEADER_SIZE and INNER_HEADER_SIZE (fmp/wire.rs) and TAG_SIZE (fsp/wire.rs)
 abbrev pub outer_header : ℕ
@@ -31,11 +28,11 @@ abbrev pub frame_of : ℕ → ℕ → Bool → ℕ
 frame_of link len oriented = cond (heeded_of oriented) (min link (len + frame_overhead)) link
 
 -- by what the path has proven
-abbrev pub bounded_by : ℕ → MaybeLen → Bool → ℕ
+abbrev pub bounded_by : ℕ → Option ℕ → Bool → ℕ
 bounded_by link None oriented = link
 bounded_by link (Some len) oriented = frame_of link len oriented
 
 -- `carried`: 5 for a link's frame above 65,535
-unfoldable pub carried_frame : ℕ → MaybeLen → Bool → SizeAnswer
-carried_frame link proven oriented = cond (is_overlong link) (answers.Refused Length)
-    (answers.Size (bounded_by link proven oriented))
+unfoldable pub carried_frame : ℕ → Option ℕ → Bool → Result ℕ Refusal
+carried_frame link proven oriented = cond (is_overlong link) (Err Length)
+    (Ok (bounded_by link proven oriented))

@@ -11,8 +11,7 @@ pub fn tier(role: Role) -> u8
     match role {
         Role::Never => 0,
         Role::Backup => 1,
-        Role::Normal => 2,
-        Role::Preferred => 2,
+        Role::Normal | Role::Preferred => 2,
     }
 }
 
@@ -37,24 +36,18 @@ pub fn quicker(a: Medium, b: Medium) -> bool
     (y < 3) & (x < y)
 }
 
-// The number of a medium.
+// The number of a medium, by the order of its variants.
 pub fn medium_bits(m: Medium) -> u64
     ensures { (result ≡ medium_bits m) × (result < 4) }
 {
-    match m {
-        Medium::Ble => 0,
-        Medium::Wired => 1,
-        Medium::Wireless => 2,
-        Medium::Unknown => 3,
-    }
+    m as u64
 }
 
-// A medium by its number, modulo 4.
+// A medium by its number, modulo 4: by name, since a From of any number would hide that.
 pub fn medium_of(x: u64) -> Medium
     ensures { result ≡ medium_of x }
 {
-    let n = x % 4;
-    match n {
+    match x % 4 {
         0 => Medium::Ble,
         1 => Medium::Wired,
         2 => Medium::Wireless,
@@ -62,12 +55,11 @@ pub fn medium_of(x: u64) -> Medium
     }
 }
 
-// A role by its number, modulo 4.
+// A role by its number, modulo 4: by name too.
 pub fn role_of(x: u64) -> Role
     ensures { result ≡ role_of x }
 {
-    let n = x % 4;
-    match n {
+    match x % 4 {
         0 => Role::Never,
         1 => Role::Backup,
         2 => Role::Normal,

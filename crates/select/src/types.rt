@@ -26,7 +26,7 @@ pub enum Role {
 }
 
 // A path that a choice may take, in its place of the field; where `held` is false there is none. Of score, steady, rtt
-// and base the mark (scored, steadied, timed, based) says whether there is one.
+// and base the mark (scored, steadied, timed, based) says whether there is one: document 01 names this form.
 #[derive(Clone, Copy)]
 pub struct Rival {
     pub score: f64,
@@ -51,7 +51,6 @@ impl Rival {
     pub fn none() -> Self
         ensures { result ≡ no_rival }
     {
-        let medium = Medium::Ble;
         Rival {
             score: 0.0,
             steady: 0.0,
@@ -67,52 +66,7 @@ impl Rival {
             preferred: false,
             pinned: false,
             fits: false,
-            medium: medium,
+            medium: Medium::Ble,
         }
     }
-}
-
-// A rival, or none.
-#[derive(Clone, Copy)]
-pub enum MaybeRival {
-    None,
-    Some(Rival),
-}
-
-// The answer of `choose`: the place of the path.
-#[derive(Clone, Copy)]
-pub enum Chosen {
-    Slot(usize),
-    Refused(Refusal),
-}
-
-// The answer of `best`: the least score, or that none is scored.
-#[derive(Clone, Copy)]
-pub enum BestAnswer {
-    Score(f64),
-    Unscored,
-    Refused(Refusal),
-}
-
-// The answer of `held` and `waits`: whether a change is held.
-#[derive(Clone, Copy)]
-pub enum HeldAnswer {
-    Held,
-    Free,
-    Refused(Refusal),
-}
-
-// The answer of `Hold::held`: the cost held, or that the hold is over.
-#[derive(Clone, Copy)]
-pub enum CostAnswer {
-    Cost(f64),
-    Over,
-    Refused(Refusal),
-}
-
-// The answer of `carried`: a frame's bytes.
-#[derive(Clone, Copy)]
-pub enum SizeAnswer {
-    Size(u32),
-    Refused(Refusal),
 }

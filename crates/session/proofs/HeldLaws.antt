@@ -1,6 +1,7 @@
 -- Bytes that are moved to the front of the list that they stand in.
 -- Assumes nothing.
-use Rattle.std.proofs.Common.{◌≡◌, ℕ, suc, ◌+◌, ◌-◌, ◌<◌, ◌≤◌, List, [], ◌∷◌, ◌++◌, length, get_or, take, drop, set, sym, ap, ◌∙◌, add-one, arith, length-drop, length-take-le, get_or-drop, take_all, drop-cons, take-suc, get_or-append-add}
+use Rattle.std.proofs.Common.{◌≡◌, ℕ, suc, ◌+◌, ◌-◌, ◌<◌, ◌≤◌, min, List, [], ◌∷◌, ◌++◌, length, get_or, take, drop, set, sym, ap, ◌∙◌, add-one, arith, length-drop, length-take-le, get_or-drop, take_all, drop-cons, take-suc, get_or-append-add}
+use Rattle.base.proofs.Cases.{on-order}
 use lib.Seq.{append_snoc, set_at}
 use Rattle.octets.specs.Octets.{over}
 use Rattle.octets.proofs.Fill.{Filled, nothing, filled-length, filled-over}
@@ -37,6 +38,11 @@ module _ {l₀ : List ℕ} {from to : ℕ} {l : List ℕ} {i j : ℕ} (m : Movin
       let a : take i (drop from l₀) ≡ drop from l₀ = take_all i (drop from l₀) (omega (arith, d, n, m.place)) in
       let b : part_of from to l₀ ≡ drop from l₀ = take_all (to - from) (drop from l₀) (omega (arith, d, n, m.place)) in
       moved l₀ from to i (a ∙ sym b) m.done
+
+  pub moving-done : {r : ℕ} → min to (length l) ≤ j → r ≡ i
+      → (r ≡ length (part_of from to l₀)) × (l ≡ over (part_of from to l₀) l₀)
+  moving-done h e =
+      let d = on-order j to (λ k. moving-out k (omega (arith, h))) (λ k. moving-end k) in (e ∙ d.0, d.1)
 
   pub moving-next : (d : ℕ) → j < to → j < length l → Moving l₀ from to (set l i (get_or l j d)) (i + 1) (j + 1)
   moving-next d h k =

@@ -1,6 +1,7 @@
 -- The loop of a run: of at most `most` records i are done, and their lines stand at the front of the lent bytes.
 -- Assumes nothing.
-use Rattle.std.proofs.Common.{◌≡◌, ℕ, suc, ◌+◌, ◌-◌, ◌*◌, ◌/◌, ◌%◌, ◌^◌, ◌<◌, ◌≤◌, Bool, true, false, cond, eqb, List, [], ◌++◌, length, drop, sym, refl, ap, ◌∙◌, arith, length-append}
+use Rattle.base.specs.declared.types.Refusal.{Refusal}
+use Rattle.std.proofs.Common.{◌≡◌, ℕ, suc, ◌+◌, ◌-◌, ◌*◌, ◌/◌, ◌%◌, ◌^◌, ◌<◌, ◌≤◌, Bool, true, false, cond, eqb, List, [], ◌++◌, length, drop, sym, refl, ap, ◌∙◌, arith, length-append, Result}
 use Rattle.base.specs.Refusals.{refusal_number}
 use Rattle.base.proofs.Cases.{never}
 use Rattle.octets.specs.Octets.{over}
@@ -125,7 +126,7 @@ module _ {l₀ l t : List ℕ} {a₀ : List (List (List ℕ))} {n₀ p₀ most :
       }
 
   -- an event on the words, and its line
-  pub going_next : {x : Parse} {e : Event} {next r n' : ℕ} {b : List (List (List ℕ))} {reply : Reply} {m : List ℕ}
+  pub going_next : {x : Parse} {e : Event} {next r n' : ℕ} {b : List (List (List ℕ))} {reply : Result Reply Refusal} {m : List ℕ}
       → i < most → x ≡ parse_of l p → x ≡ parse.Event e next → Steps t a b reply e
       → (r ≡ at + written (event_line n e reply) (drop at out)) × (m ≡ laid_at at (event_line n e reply) out)
       → n' ≡ (n + 1) % 2 ^ 64 → Going l₀ l t a₀ n₀ p₀ most m b n' next r (i + 1)

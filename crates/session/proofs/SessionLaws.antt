@@ -9,6 +9,7 @@ use Rattle.octets.proofs.Read.{read_more}
 use Rattle.rules.specs.Step.{step, allowed, fresh_record, trace}
 use Rattle.rules.specs.declared.types.Record.{Record}
 use Rattle.eventfile.specs.File.{settings_of, events_of, ending_of, from, parse_of}
+use Rattle.rules.specs.declared.types.Event.{Event}
 use Rattle.eventfile.specs.declared.types.Parse.{Parse}
 use Rattle.eventfile.specs.declared.types.Parse.TheVariants as parse
 use Rattle.lines.specs.Text.{line_of}
@@ -68,6 +69,11 @@ abbrev pub is_event : Parse → Bool
 is_event parse.End = false
 is_event (parse.Event e next) = true
 is_event (parse.Refused why k) = false
+
+pub no_event : (x : Parse) → ((e : Event) (next : ℕ) → x ≡ parse.Event e next → ⊥) → is_event x ≡ false
+no_event parse.End h = refl
+no_event (parse.Event e next) h = absurd (h e next refl)
+no_event (parse.Refused why k) h = refl
 
 -- where it is none, what is owed is the last line
 last-by : (x : Parse) (rec : Record) (n : ℕ) (more : Record → ℕ → ℕ → List ℕ) → is_event x ≡ false → last_by x n

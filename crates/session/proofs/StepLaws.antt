@@ -1,6 +1,7 @@
 -- What a call of a session gives, by its phase.
 -- Assumes nothing.
-use Rattle.std.proofs.Common.{◌≡◌, ℕ, ◌/◌, ◌<◌, ◌≤◌, Bool, true, false, cond, eqb, ltb, List, [], length, sym, refl, ap, ◌∙◌, subst, arith, le-ltb, lt-ltb, eq-eqb, ne_eqb}
+use Rattle.base.specs.declared.types.Refusal.{Refusal}
+use Rattle.std.proofs.Common.{◌≡◌, ℕ, ◌/◌, ◌<◌, ◌≤◌, Bool, true, false, cond, eqb, ltb, List, [], length, sym, refl, ap, ◌∙◌, subst, arith, le-ltb, lt-ltb, eq-eqb, ne_eqb, Result, Ok, Err}
 use Rattle.base.specs.declared.types.Refusal.TheVariants as refusal
 use Rattle.octets.specs.Octets.{over}
 use Rattle.rules.specs.Event.{number_of}
@@ -113,11 +114,11 @@ step-large t a m l o {t'} {a'} {w} {y} h e p q x z =
     })
 
 -- the settings that are allowed, by the answer of a record that is made from them
-number_by : (b : Bool) → eqb (number_of (cond b reply.Nothing (reply.Refused refusal.Duration))) 0 ≡ b
+number_by : (b : Bool) → eqb (number_of (cond b (Ok reply.Nothing) (Err refusal.Duration))) 0 ≡ b
 number_by true = refl
 number_by false = refl
 
-pub allowed-by : (l : List ℕ) {s : Settings} {x : Reply} {n : ℕ} → s ≡ settings_of l → x ≡ (record_of s).reply
+pub allowed-by : (l : List ℕ) {s : Settings} {x : Result Reply Refusal} {n : ℕ} → s ≡ settings_of l → x ≡ (record_of s).reply
     → n ≡ number_of x → eqb n 0 ≡ allowed (settings_of l)
 unfolding record_of
 allowed-by l {s} {x} {n} p d e =

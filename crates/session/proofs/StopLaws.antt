@@ -41,11 +41,16 @@ pub record Waits (x : Parse) : Type 0 where
   pub line : (n : ℕ) → stop_line x n ≡ []
   pub stays : stop_phase x ≡ phase.Running
 
-pub waits_end : {x : Parse} → x ≡ parse.End → Waits x
+waits_end : {x : Parse} → x ≡ parse.End → Waits x
 waits_end {x} e = record { line = λ n. ap (λ (z : Parse). stop_line z n) e; stays = ap stop_phase e }
 
-pub waits-event : {x : Parse} {v : Event} {next : ℕ} → x ≡ parse.Event v next → Waits x
+waits-event : {x : Parse} {v : Event} {next : ℕ} → x ≡ parse.Event v next → Waits x
 waits-event {x} {v} {next} e = record { line = λ n. ap (λ (z : Parse). stop_line z n) e; stays = ap stop_phase e }
+
+pub waits-other : (x : Parse) → ((why : Refusal) (k : ℕ) → x ≡ parse.Refused why k → ⊥) → Waits x
+waits-other parse.End h = waits_end refl
+waits-other (parse.Event v next) h = waits-event refl
+waits-other (parse.Refused why k) h = absurd (h why k refl)
 
 pub waits-cut : {x : Parse} {why : Refusal} {k r : ℕ} → x ≡ parse.Refused why k → r ≡ refusal_number why → r ≡ 13
     → Waits x
@@ -105,6 +110,15 @@ last-over n l e = λ j. last_in (e j) n l
 pub last-by : (l : List ℕ) {f : Phase} (n : ℕ) {x y : Parse} → f ≡ phase.Running → x ≡ parse_of l 0 → x ≡ y
     → last_in f n l ≡ last_by y n
 last-by l n e a b = (λ j. last_in (e j) n l) ∙ (λ j. last_by ((sym a ∙ b) j) n)
+
+pub last-other : (l : List ℕ) {f : Phase} (n : ℕ) {x : Parse} → f ≡ phase.Running → x ≡ parse_of l 0
+    → ((why : Refusal) (k : ℕ) → x ≡ parse.Refused why k → ⊥) → last_in f n l ≡ []
+last-other l {f} n {x} e a h = go x a h
+  where
+    go : (x : Parse) → x ≡ parse_of l 0 → ((why : Refusal) (k : ℕ) → x ≡ parse.Refused why k → ⊥) → last_in f n l ≡ []
+    go parse.End a h = last-by l n {y = parse.End} e a refl
+    go (parse.Event v next) a h = last-by l n {y = parse.Event v next} e a refl
+    go (parse.Refused why k) a h = absurd (h why k refl)
 
 pub last-refused : (l : List ℕ) {f : Phase} (n : ℕ) {x : Parse} {why : Refusal} {k r : ℕ} → f ≡ phase.Running
     → x ≡ parse_of l 0 → x ≡ parse.Refused why k → r ≡ refusal_number why → last_in f n l ≡ line_of n k r 0

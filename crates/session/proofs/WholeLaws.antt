@@ -1,6 +1,6 @@
 -- A whole file in lent bytes with room: a call and the end give all its lines.
 -- Assumes nothing.
-use Rattle.std.proofs.Common.{◌≡◌, ℕ, zero, suc, ◌+◌, ◌-◌, ◌*◌, ◌/◌, ◌<◌, ◌≤◌, Bool, true, false, cond, List, [], ◌++◌, length, drop, sym, refl, ap, ◌∙◌, subst, append-nil, le_of_eq, arith, length-append, length-drop, take_all, le-ltb, lt-ltb}
+use Rattle.std.proofs.Common.{◌≡◌, ℕ, zero, suc, ◌+◌, ◌-◌, ◌*◌, ◌/◌, ◌<◌, ◌≤◌, Bool, true, false, cond, List, [], ◌++◌, length, drop, sym, refl, ap, ◌∙◌, subst, append-nil, le_of_eq, arith, length-append, length-drop, take_all, le-ltb, lt-ltb, Ok, Err}
 use borrow.Rule.Slice.PartMut.{mid_of, put_mid}
 use Rattle.base.specs.Refusals.{refusal_number}
 use Rattle.base.specs.declared.types.Refusal.TheVariants as refusal
@@ -10,7 +10,6 @@ use Rattle.octets.proofs.Fill.{Filled, filled-length, filled-over, over-fits}
 use Rattle.rules.specs.Step.{step, allowed, fresh_record}
 use Rattle.rules.proofs.Whole.{demand3}
 use Rattle.rules.specs.declared.types.Record.{Record}
-use Rattle.standing.specs.declared.types.Written.TheVariants as reply
 use Rattle.eventfile.specs.File.{settings_of, events_of, parse_of}
 use Rattle.eventfile.specs.declared.types.Parse.{Parse}
 use Rattle.eventfile.specs.declared.types.Parse.TheVariants as parse
@@ -164,22 +163,22 @@ module _ {l o : List ℕ} {s : Session} {r : Run} {m : List ℕ} (e : Ends l o s
     pub total-in : r.wrote + k ≤ length o
     total-in = all_laid.room
 
-    pub file-done : (reply.Count (r.wrote + k) ≡ file_reply l o)
+    pub file-done : (Ok (r.wrote + k) ≡ file_reply l o)
         × (put_mid r.wrote (length m - r.wrote) m m' ≡ over (file_text l o) o) × FileDemand l
     file-done =
         let c : has_room l o ≡ true = lt-ltb (length l / 3) (length o / 84) e.room in (
-          (λ j. reply.Count (sym all_laid.long j))
-              ∙ sym (λ j. cond (c j) (reply.Count (length (lines_of l))) (reply.Refused refusal.Lent)),
+          (λ j. Ok (sym all_laid.long j))
+              ∙ sym (λ j. cond (c j) (Ok (length (lines_of l))) (Err refusal.Lent)),
           filled-over all_laid ∙ sym (λ j. over (cond (c j) (lines_of l) []) o),
           file-demand l,
         )
 
 -- too few lent bytes: nothing is written
 pub file-lent : (l o : List ℕ) → length o / 84 ≤ length l / 3
-    → (reply.Refused refusal.Lent ≡ file_reply l o) × (o ≡ over (file_text l o) o) × FileDemand l
+    → (Err refusal.Lent ≡ file_reply l o) × (o ≡ over (file_text l o) o) × FileDemand l
 file-lent l o h =
     let c : has_room l o ≡ false = le-ltb (length l / 3) (length o / 84) h in (
-      sym (λ j. cond (c j) (reply.Count (length (lines_of l))) (reply.Refused refusal.Lent)),
+      sym (λ j. cond (c j) (Ok (length (lines_of l))) (Err refusal.Lent)),
       (none-laid o).1 ∙ sym (λ j. over (cond (c j) (lines_of l) []) o),
       file-demand l,
     )

@@ -1,5 +1,6 @@
 -- A session reads the input portion by portion: what a call on the bytes held writes, and where it leaves the session.
-use Rattle.std.specs.Prelude.{ℕ, zero, suc, ◌-◌, ◌/◌, Bool, true, false, cond, List, [], ◌++◌, length, take, drop, ◌==◌, nat_lt}
+use Rattle.base.specs.declared.types.Refusal.{Refusal}
+use Rattle.std.specs.Prelude.{ℕ, zero, suc, ◌-◌, ◌/◌, Bool, true, false, cond, List, [], ◌++◌, length, take, drop, ◌==◌, nat_lt, Result}
 use Rattle.base.specs.Refusals.{refusal_number}
 use Rattle.octets.specs.Octets.{over}
 use Rattle.rules.specs.Event.{number_of, value_of}
@@ -58,7 +59,7 @@ call_end text s at full =
     record { text = text; run = record { session = s; place = at; wrote = length text; full = full } }
 
 -- the line of an event
-abbrev pub event_line : ℕ → Event → Reply → List ℕ
+abbrev pub event_line : ℕ → Event → Result Reply Refusal → List ℕ
 event_line n e r = line_of n e.kind (number_of r) (value_of r)
 
 -- "After 13, 14 or 15 it stops": a record that can't be read ends the session with its line, but one that is cut short

@@ -1,9 +1,8 @@
 -- A whole file in lent bytes: its lines. They are those of `trace`, so that demand 3 of the file's events
 -- (eventfile/specs/Claim.antt) speaks of them.
-use Rattle.std.specs.Prelude.{ℕ, ◌/◌, Bool, cond, List, [], length, nat_lt}
+use Rattle.base.specs.declared.types.Refusal.{Refusal}
+use Rattle.std.specs.Prelude.{ℕ, ◌/◌, Bool, cond, List, [], length, nat_lt, Result, Ok, Err}
 use Rattle.base.specs.declared.types.Refusal.TheVariants as refusal
-use Rattle.standing.specs.declared.types.Written.{Written}
-use Rattle.standing.specs.declared.types.Written.TheVariants as written
 use Rattle.session.specs.Lines.{lines_of}
 use Rattle.session.specs.Sessions.{lines_in}
 
@@ -16,5 +15,5 @@ has_room l out = nat_lt (length l / 3) (lines_in out)
 abbrev pub file_text : List ℕ → List ℕ → List ℕ
 file_text l out = cond (has_room l out) (lines_of l) []
 
-abbrev pub file_reply : List ℕ → List ℕ → Written
-file_reply l out = cond (has_room l out) (written.Count (length (lines_of l))) (written.Refused refusal.Lent)
+abbrev pub file_reply : List ℕ → List ℕ → Result ℕ Refusal
+file_reply l out = cond (has_room l out) (Ok (length (lines_of l))) (Err refusal.Lent)

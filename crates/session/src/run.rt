@@ -25,7 +25,13 @@ fn lay(out: &mut [u8], at: usize, number: u64, kind: u64, refusal: u64, value: u
 }
 
 // The same with the line of an event.
-fn lay_event(out: &mut [u8], at: usize, number: u64, e: Event, reply: Reply) -> usize
+fn lay_event(
+    out: &mut [u8],
+    at: usize,
+    number: u64,
+    e: Event,
+    reply: Result<Reply, Refusal>,
+) -> usize
     ensures { (result ≡ at + written (event_line number e reply) (drop at out.old))
         × (out.new ≡ laid_at at (event_line number e reply) out.old) }
 {
@@ -33,7 +39,7 @@ fn lay_event(out: &mut [u8], at: usize, number: u64, e: Event, reply: Reply) -> 
         out,
         at,
         number,
-        e.kind as u64,
+        u64::from(e.kind),
         number_of(reply),
         value_of(reply),
     )
@@ -43,15 +49,11 @@ fn lay_event(out: &mut [u8], at: usize, number: u64, e: Event, reply: Reply) -> 
 fn call_at(number: u64, phase: Phase, place: usize, wrote: usize, full: bool) -> Call
     ensures { result ≡ call_at number phase place wrote full }
 {
-    let mark = Mark {
-        number: number,
-        phase: phase,
-    };
     Call {
-        mark: mark,
-        place: place,
-        wrote: wrote,
-        full: full,
+        mark: Mark { number, phase },
+        place,
+        wrote,
+        full,
     }
 }
 
@@ -62,18 +64,15 @@ fn stop(number: u64, x: Parse, place: usize, out: &mut [u8], at: usize) -> Call
         × (out.new ≡ laid_at at (stop_line x number) out.old) }
 {
     let rest = call_at(number, Phase::Running, place, at, false);
-    match x {
-        Parse::End => rest,
-        Parse::Event(e, next) => rest,
-        Parse::Refused(why, kind) => {
-            let refusal = why.number();
-            if refusal == 13 {
-                return rest;
-            }
-            let end = lay(out, at, number, kind as u64, refusal, 0);
-            call_at(number, Phase::Over, place, end, false)
-        }
+    let Parse::Refused(why, kind) = x else {
+        return rest;
+    };
+    let refusal = why.number();
+    if refusal == 13 {
+        return rest;
     }
+    let end = lay(out, at, number, u64::from(kind), refusal, 0);
+    call_at(number, Phase::Over, place, end, false)
 }
 
 // The records from a place on, at most one for each 84 bytes of `out`. An event changes the record in its lent words.
@@ -94,21 +93,15 @@ pub fn run(
     let mut n = number;
     let mut p = place;
     let mut at: usize = 0;
-    let mut i: usize = 0;
-    while i < most {
+    for _i in 0..most {
         let x = eventfile::record_at(s, p);
-        match x {
-            Parse::End => return stop(n, x, p, out, at),
-            Parse::Refused(why, kind) => return stop(n, x, p, out, at),
-            Parse::Event(e, next) => {
-                let line = n;
-                n = std::num::wrapping_add_u64(n, 1);
-                p = next;
-                i += 1;
-                let reply = peer::record::event(t, rec, e);
-                at = lay_event(out, at, line, e, reply);
-            }
-        }
+        let Parse::Event(e, next) = x else {
+            return stop(n, x, p, out, at);
+        };
+        let reply = peer::record::event(t, rec, e);
+        at = lay_event(out, at, n, e, reply);
+        n = n.wrapping_add(1);
+        p = next;
     }
     call_at(n, Phase::Running, p, at, true)
 }

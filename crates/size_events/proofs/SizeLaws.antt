@@ -1,13 +1,13 @@
 -- What the stores of each event on sizes leave.
 -- Assumes nothing.
+use Rattle.std.specs.Prelude.{Option, None, Some, Result, Ok, Err}
+use Rattle.base.specs.declared.types.Refusal.{Refusal}
 use Prim.Native.Nat.{ℕ, ◌<◌, ◌≤◌, ◌^◌}
 use mathlib.Core.Path.{◌≡◌, refl, ap, sym, ◌∙◌}
 use mathlib.Core.Bool.{Bool, true, false, cond}
 use mathlib.Core.List.{List}
 use native.Mathlib.Omega.{arith}
 use borrow.Author.Tests.{lt-ltb, le-ltb, le-leb, lt-leb}
-use Rattle.base.specs.declared.types.MaybeLen.{MaybeLen}
-use Rattle.base.specs.declared.types.MaybeLen.TheVariants as len
 use Rattle.base.specs.declared.types.Refusal.TheVariants as refusal
 use Rattle.base.proofs.Cases.{never}
 use Rattle.ring.specs.Ids.{taken_of, next_ids, fresh_ids}
@@ -46,20 +46,20 @@ use Rattle.size_events.specs.Settles.{Settles}
 
 module _ (a : List (List ℕ)) {n : ℕ} where
   -- a length above 65,535
-  pub prove-over : 65535 < n → Turns a a reply.Nothing (turn (slot_in a) (prove_of (path_in a) n).path reply.Nothing)
+  pub prove-over : 65535 < n → Turns a a (Ok reply.Nothing) (turn (slot_in a) (prove_of (path_in a) n).path (Ok reply.Nothing))
   unfolding prove_of
   prove-over h = turns-none refl (rw (lt-ltb 65535 n h) refl)
 
   -- a length below 27
   pub prove-under : n ≤ 65535 → n < 27
-      → Turns a a reply.Nothing (turn (slot_in a) (prove_of (path_in a) n).path reply.Nothing)
+      → Turns a a (Ok reply.Nothing) (turn (slot_in a) (prove_of (path_in a) n).path (Ok reply.Nothing))
   unfolding prove_of
   prove-under h k = turns-none refl (rw (le-ltb 65535 n h, lt-ltb n 27 k) refl)
 
   -- a length that is proven
   pub prove-made : {b : List (List ℕ)} {s : Sizes} {d : Proving} → n ≤ 65535 → 27 ≤ n → s ≡ (path_in a).sizes
       → d ≡ proven_sizes s n → Says a b (with_proven (path_in a) d.sizes.proven)
-      → Turns a b reply.Nothing (turn (slot_in a) (prove_of (path_in a) n).path reply.Nothing)
+      → Turns a b (Ok reply.Nothing) (turn (slot_in a) (prove_of (path_in a) n).path (Ok reply.Nothing))
   unfolding prove_of
   prove-made {b} {s} {d} h k e f w =
       let z : d ≡ proven_sizes (path_in a).sizes n = f ∙ ap (λ (x : Sizes). proven_sizes x n) e in
@@ -76,7 +76,7 @@ unfolding seek_size_of
 proposed p full now h k = rw (le-ltb 65535 full h, le-ltb full 27 k)
 
 -- and for one that is too small
-unproposed : (p : Liveness) (full now : ℕ) → full < 27 → seek_size_of p full now ≡ answer.Refused refusal.Length
+unproposed : (p : Liveness) (full now : ℕ) → full < 27 → seek_size_of p full now ≡ Err refusal.Length
 unfolding seek_size_of
 unproposed p full now h = rw (le-ltb 65535 full (omega arith), lt-ltb full 27 h)
 
@@ -86,7 +86,7 @@ sent : (p : Liveness) (at n draw : ℕ) → n ≤ 65535
       path =
           with_sizes (with_ids p (next_ids p.ids (taken_of p.ids.next_id draw)))
           (sent_search p.sizes at n (taken_of p.ids.next_id draw));
-      answer = answer.Id (taken_of p.ids.next_id draw);
+      answer = Ok (answer.Id (taken_of p.ids.next_id draw));
     }
     ≡ seek_send_of p at n draw
 unfolding seek_send_of
@@ -99,38 +99,38 @@ full-bits a = omega arith
 
 module _ (a : List (List ℕ)) (e : Event) {l : Label} (f : l ≡ (slot_in a).label) where
   -- the turn of a search, by what is proposed
-  abbrev sought : Answer → Turn
+  abbrev sought : Result Answer Refusal → Turn
   sought x = searched x (slot_in a) e
 
   -- and by what the label read says
-  named : {x : Answer} → seek_size_of (path_in a) l.full e.now ≡ x
+  named : {x : Result Answer Refusal} → seek_size_of (path_in a) l.full e.now ≡ x
       → sought x ≡ sought (seek_size_of (path_in a) (slot_in a).label.full e.now)
   named z = ap sought (sym z ∙ ap (λ (y : Label). seek_size_of (path_in a) y.full e.now) f)
 
   -- a full size below 27
   pub search-small : l.full < 27
-      → Turns a a (reply.Refused refusal.Length) (sought (seek_size_of (path_in a) (slot_in a).label.full e.now))
+      → Turns a a (Err refusal.Length) (sought (seek_size_of (path_in a) (slot_in a).label.full e.now))
   search-small h = turns_as (turns-none refl refl) (named (unproposed (path_in a) l.full e.now h))
 
-  module _ {s : Sizes} {m : MaybeLen} (k : 27 ≤ l.full) (g : s ≡ (path_in a).sizes)
+  module _ {s : Sizes} {m : Option ℕ} (k : 27 ≤ l.full) (g : s ≡ (path_in a).sizes)
       (i : m ≡ search_size s l.full e.now) where
     -- what is proposed
-    here : {y : MaybeLen} → m ≡ y → seek_size_of (path_in a) l.full e.now ≡ len_or refusal.NoSize y
+    here : {y : Option ℕ} → m ≡ y → seek_size_of (path_in a) l.full e.now ≡ len_or refusal.NoSize y
     here z =
         proposed (path_in a) l.full e.now (rw f (full-bits a)) k
         ∙ ap (len_or refusal.NoSize) (ap (λ (x : Sizes). search_size x l.full e.now) (sym g) ∙ sym i ∙ z)
 
     -- no size is proposed
-    pub search-none : m ≡ len.None
-        → Turns a a (reply.Refused refusal.NoSize) (sought (seek_size_of (path_in a) (slot_in a).label.full e.now))
+    pub search-none : m ≡ None
+        → Turns a a (Err refusal.NoSize) (sought (seek_size_of (path_in a) (slot_in a).label.full e.now))
     search-none z = turns_as (turns-none refl refl) (named (here z))
 
     -- the size that is proposed is sent
-    pub search-sent : {b c : List (List ℕ)} {n id : ℕ} {o i : Ids} {t : Sizes} → m ≡ len.Some n → n ≤ 65535
+    pub search-sent : {b c : List (List ℕ)} {n id : ℕ} {o i : Ids} {t : Sizes} → m ≡ Some n → n ≤ 65535
         → o ≡ (path_in a).ids → id ≡ taken_of o.next_id e.id → i ≡ next_ids o id
         → t ≡ sent_search s e.now n id → Says a b (with_ids (path_in a) (with_id (path_in a).ids 0 i.next_id))
         → Says b c (with_seek_in (path_in b) t.seek)
-        → Turns a c (reply.Id id) (sought (seek_size_of (path_in a) (slot_in a).label.full e.now))
+        → Turns a c (Ok (reply.Id id)) (sought (seek_size_of (path_in a) (slot_in a).label.full e.now))
     unfolding sent_search
     search-sent {b} {c} {n} {id} {o} {i} {t} z v q r w x y₀ u =
         let y : Says a b (with_ids (path_in a) i) =
@@ -146,7 +146,7 @@ module _ (a : List (List ℕ)) (e : Event) {l : Label} (f : l ≡ (slot_in a).la
         (says-as (says_then y u)
         (ap (λ (p : Liveness). with_seek_in p t.seek) y.path
         ∙ (λ j. with_seek_in (with_ids (path_in a) (w' j)) (x' j).seek)))
-        (ap reply.Id r')
+        (λ j. Ok (reply.Id (r' j)))
         refl)
         (ap (turn_by (slot_in a)) (sent (path_in a) e.now n e.id v) ∙ named (here z))
 
@@ -158,12 +158,12 @@ module _ (a : List (List ℕ)) (now timeout gap : ℕ) where
   judging = turn_by (slot_in a) (seek_judge_of (path_in a) now timeout gap)
 
   -- an endless timeout
-  pub judge-endless : 2 ^ 62 ≤ timeout → Turns a a (reply.Refused refusal.Duration) judging
+  pub judge-endless : 2 ^ 62 ≤ timeout → Turns a a (Err refusal.Duration) judging
   unfolding seek_judge_of
   judge-endless h = rw (le-leb (2 ^ 62) timeout h) (turns-none refl refl)
 
   -- an endless gap
-  pub judge-gap : timeout < 2 ^ 62 → 2 ^ 62 ≤ gap → Turns a a (reply.Refused refusal.Duration) judging
+  pub judge-gap : timeout < 2 ^ 62 → 2 ^ 62 ≤ gap → Turns a a (Err refusal.Duration) judging
   unfolding seek_judge_of
   judge-gap h k = rw (lt-leb (2 ^ 62) timeout h, le-leb (2 ^ 62) gap k) (turns-none refl refl)
 
@@ -180,7 +180,7 @@ module _ (a : List (List ℕ)) (now timeout gap : ℕ) where
 
     -- the probe is lost: the search is stored
     pub judge-lost : {b : List (List ℕ)} {n : ℕ} {d : Judged} → t ≡ true → n ≡ known_of 27 s.proven
-        → d ≡ drop_of s n now gap → Says a b (with_seek_in (path_in a) d.sizes.seek) → Turns a b reply.Lost judging
+        → d ≡ drop_of s n now gap → Says a b (with_seek_in (path_in a) d.sizes.seek) → Turns a b (Ok reply.Lost) judging
     judge-lost {b} {n} {d} q o r w =
         let u : d ≡ judged_search s i.answered now timeout gap =
         r ∙ ap (λ (x : ℕ). drop_of s x now gap) o ∙ judge-drops s i.answered now timeout gap (sym e ∙ q) in
@@ -189,13 +189,13 @@ module _ (a : List (List ℕ)) (now timeout gap : ℕ) where
         let z : d.lost ≡ true = ap (λ (x : Judged). x.lost) r in
         turns_as
         (turns-by (says-as w (λ j. with_sizes (path_in a) (record { seek = d.sizes.seek; proven = v j }))) refl refl)
-        (ap (λ (x : Bool). turn (slot_in a) (with_sizes (path_in a) d.sizes) (cond x reply.Lost reply.Waits)) (sym z) ∙ judged u)
+        (ap (λ (x : Bool). turn (slot_in a) (with_sizes (path_in a) d.sizes) (cond x (Ok reply.Lost) (Ok reply.Waits))) (sym z) ∙ judged u)
 
     -- it waits
-    pub judge-waits : t ≡ false → Turns a a reply.Waits judging
+    pub judge-waits : t ≡ false → Turns a a (Ok reply.Waits) judging
     judge-waits q =
         turns_as (turns-none refl refl)
-        (ap (λ (x : Sizes). turn (slot_in a) (with_sizes (path_in a) x) reply.Waits) (sym g)
+        (ap (λ (x : Sizes). turn (slot_in a) (with_sizes (path_in a) x) (Ok reply.Waits)) (sym g)
         ∙ judged (judge-keeps s i.answered now timeout gap (sym e ∙ q)))
 
 -- ---- fresh
@@ -205,11 +205,11 @@ pub fresh-made : {a b c d f : List (List ℕ)} {s t : Sizes} {o i : Ids} → s �
     → i ≡ fresh_ids o → t ≡ fresh_sizes s → Says a b (with_ids (path_in a) (with_id (path_in a).ids 2 i.epoch))
     → Says b c (with_misses (path_in b) 0)
     → Says c d (with_seek_in (path_in c) t.seek)
-    → Says d f (with_ladder (path_in d) (record { last = len.None; fallen = false }))
-    → Turns a f reply.Nothing (turn (slot_in a) (fresh_of (path_in a)) reply.Nothing)
+    → Says d f (with_ladder (path_in d) (record { last = None; fallen = false }))
+    → Turns a f (Ok reply.Nothing) (turn (slot_in a) (fresh_of (path_in a)) (Ok reply.Nothing))
 fresh-made {a} {b} {c} {d} {f} {s} {t} {o} {i} g q r w x₀ y u v =
     let x : Says a b (with_ids (path_in a) i) = says-after 2 (λ (k : Ids). k.epoch) (r ∙ ap fresh_ids q) refl x₀ in
-    let none : Ladder = record { last = len.None; fallen = false } in
+    let none : Ladder = record { last = None; fallen = false } in
     let e : path_in d ≡ with_seek_in (with_misses (with_ids (path_in a) i) 0) t.seek =
     u.path ∙ ap (λ (p : Liveness). with_seek_in p t.seek) (y.path ∙ ap (λ (p : Liveness). with_misses p 0) x.path) in
     turns-by
@@ -243,10 +243,10 @@ module _ (a : List (List ℕ)) (id gap acked now : ℕ) where
   module _ {s : Sizes} {d : Settled} (h : gap < 2 ^ 62) (g : s ≡ (path_in a).sizes) (e : d ≡ settled_search s id gap)
     where
       -- what is settled
-      settled : {m : MaybeLen} → d.len ≡ m → settled_by (path_in a) m d ≡ seek_answer_of (path_in a) id gap
+      settled : {m : Option ℕ} → d.len ≡ m → settled_by (path_in a) m d ≡ seek_answer_of (path_in a) id gap
       unfolding seek_answer_of
       settled z =
-          ap (λ (m : MaybeLen). settled_by (path_in a) m d) (sym z)
+          ap (λ (m : Option ℕ). settled_by (path_in a) m d) (sym z)
           ∙ rw (lt-leb (2 ^ 62) gap h)
           (ap (λ (x : Settled). settled_by (path_in a) x.len x) (e ∙ ap (λ (x : Sizes). settled_search x id gap) g))
 
@@ -262,10 +262,10 @@ module _ (a : List (List ℕ)) (id gap acked now : ℕ) where
           }
 
       -- another identifier
-      pub settle-none : d.len ≡ len.None → Settles a a false (seek_answer_of (path_in a) id gap) acked now
+      pub settle-none : d.len ≡ None → Settles a a false (seek_answer_of (path_in a) id gap) acked now
       settle-none z = settles (record { named = refl; proved = λ q. never q refl; left = λ q. refl }) (settled z)
 
-      module _ {b : List (List ℕ)} {n : ℕ} (z : d.len ≡ len.Some n) where
+      module _ {b : List (List ℕ)} {n : ℕ} (z : d.len ≡ Some n) where
         -- what is acknowledged is too long to be proven
         pub settle-over : n ≤ 65535 → 65535 < acked → Says a b (with_sizes (path_in a) d.sizes)
             → Settles a b true (seek_answer_of (path_in a) id gap) acked now

@@ -17,101 +17,82 @@ use rules::types::*;
 use seek::types::Ladder;
 
 // Prove: a length out of range changes nothing.
-pub fn prove(p: &mut [[u64; 4]; ROWS], e: Event) -> Reply
+pub fn prove(p: &mut [[u64; 4]; ROWS], e: Event) -> Result<Reply, Refusal>
     ensures { Turns p.old p.new result
-        (turn (slot_in p.old) (prove_of (path_in p.old) e.len).path Nothing) }
+        (turn (slot_in p.old) (prove_of (path_in p.old) e.len).path (Ok Nothing)) }
 {
     let len = e.len;
     if MAX_LEN < len {
-        return Reply::Nothing;
+        return Ok(Reply::Nothing);
     }
     if len < MIN_LEN {
-        return Reply::Nothing;
+        return Ok(Reply::Nothing);
     }
-    let old = sizes(p);
-    let proving = seeking::prove(old, len as u16);
-    let after = proving.sizes;
-    let proven = after.proven;
-    set_proven(p, proven);
-    Reply::Nothing
+    let proving = seeking::prove(sizes(p), len as u16);
+    set_proven(p, proving.sizes.proven);
+    Ok(Reply::Nothing)
 }
 
 // Search: the size that is proposed is sent, under the path's next identifier.
-pub fn search(p: &mut [[u64; 4]; ROWS], e: Event) -> Reply
+pub fn search(p: &mut [[u64; 4]; ROWS], e: Event) -> Result<Reply, Refusal>
     ensures { Turns p.old p.new result (searched
         (seek_size_of (path_in p.old) (slot_in p.old).label.full e.now)
         (slot_in p.old) e) }
 {
-    let label = rows::whole::label(p);
-    let full = label.full;
+    let full = rows::whole::label(p).full;
     if full < PATH_PROBE_MIN_SIZE {
-        return Reply::Refused(Refusal::Length);
+        return Err(Refusal::Length);
     }
     let old = sizes(p);
-    let proposal = seeking::seek_size(old, full, e.now);
-    let MaybeLen::Some(len) = proposal else {
-        return Reply::Refused(Refusal::NoSize);
+    let Some(len) = seeking::seek_size(old, full, e.now) else {
+        return Err(Refusal::NoSize);
     };
     let before = ids(p);
-    let next = before.next_id;
-    let id = ids::taken(next, e.id);
+    let id = ids::taken(before.next_id, e.id);
     let after = ids::next_ids(before, id);
-    let later = after.next_id;
     let sent = seeking::seek_send(old, e.now, len, id);
-    let seek = sent.seek;
-    set_id(p, 0, later);
-    set_seek(p, seek);
-    Reply::Id(id)
+    set_id(p, 0, after.next_id);
+    set_seek(p, sent.seek);
+    Ok(Reply::Id(id))
 }
 
 // Judge.
-pub fn judge(p: &mut [[u64; 4]; ROWS], e: Event, gap: u64) -> Reply
+pub fn judge(p: &mut [[u64; 4]; ROWS], e: Event, gap: u64) -> Result<Reply, Refusal>
     ensures { Turns p.old p.new result
         (turn_by (slot_in p.old) (seek_judge_of (path_in p.old) e.now e.span gap)) }
 {
-    let timeout = e.span;
-    if DURATION_END <= timeout {
-        return Reply::Refused(Refusal::Duration);
+    if DURATION_END <= e.span {
+        return Err(Refusal::Duration);
     }
     if DURATION_END <= gap {
-        return Reply::Refused(Refusal::Duration);
+        return Err(Refusal::Duration);
     }
     let old = sizes(p);
-    let ids = ids(p);
-    let answered = ids.answered;
-    let seek = old.seek;
-    if seeking::judges(seek, answered, e.now, timeout) {
-        let proven = old.proven;
-        let judged = seeking::drop_out(old, seek::sizing::known(proven), e.now, gap);
-        let sizes = judged.sizes;
-        let next = sizes.seek;
-        set_seek(p, next);
-        return Reply::Lost;
+    let answered = ids(p).answered;
+    if seeking::judges(old.seek, answered, e.now, e.span) {
+        let judged = seeking::drop_out(old, seek::sizing::known(old.proven), e.now, gap);
+        set_seek(p, judged.sizes.seek);
+        return Ok(Reply::Lost);
     }
-    Reply::Waits
+    Ok(Reply::Waits)
 }
 
 // Fresh.
-pub fn fresh(p: &mut [[u64; 4]; ROWS]) -> Reply
+pub fn fresh(p: &mut [[u64; 4]; ROWS]) -> Result<Reply, Refusal>
     ensures { Turns p.old p.new result
-        (turn (slot_in p.old) (fresh_of (path_in p.old)) Nothing) }
+        (turn (slot_in p.old) (fresh_of (path_in p.old)) (Ok Nothing)) }
 {
-    let old = sizes(p);
-    let before = ids(p);
-    let after = ids::fresh_ids(before);
-    let epoch = after.epoch;
-    let again = seeking::fresh_sizes(old);
-    let start = again.seek;
-    let none = MaybeLen::None;
+    let again = seeking::fresh_sizes(sizes(p));
+    let after = ids::fresh_ids(ids(p));
     let ladder = Ladder {
-        last: none,
+        last: None,
         fallen: false,
     };
-    set_id(p, 2, epoch);
+    set_id(p, 2, after.epoch);
     set_misses(p, 0);
-    set_seek(p, start);
+    set_seek(p, again.seek);
     set_ladder(p, ladder);
-    Reply::Nothing
+    Ok(Reply::Nothing)
 }
 
 // The search probe's part of an answer: whether the identifier names it; then it is settled, and what was acknowledged
@@ -123,20 +104,16 @@ pub fn settle(p: &mut [[u64; 4]; ROWS], e: Event, gap: u64) -> bool
     if DURATION_END <= gap {
         return false;
     }
-    let old = sizes(p);
-    let settled = seeking::seek_answer(old, e.id, gap);
-    let found = settled.len;
-    let MaybeLen::Some(len) = found else {
+    let settled = seeking::seek_answer(sizes(p), e.id, gap);
+    let Some(len) = settled.len else {
         return false;
     };
-    let free = settled.sizes;
     let acked = e.acked;
     if MAX_LEN < acked {
-        set_sizes(p, free);
+        set_sizes(p, settled.sizes);
         return true;
     }
-    let proved = seeking::seek_proved(free, len, acked as u16, e.now);
-    let sizes = proved.sizes;
-    set_sizes(p, sizes);
+    let proved = seeking::seek_proved(settled.sizes, len, acked as u16, e.now);
+    set_sizes(p, proved.sizes);
     true
 }

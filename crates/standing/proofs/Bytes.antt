@@ -1,5 +1,6 @@
 -- How many bytes a standing has, and what its map says of them.
 -- Assumes nothing.
+use Rattle.std.specs.Prelude.{Option, None, Some, is_some, unwrap_or}
 use Prim.Native.Nat.{ℕ, zero, suc, ◌+◌, ◌*◌, ◌/◌, ◌%◌, ◌^◌, ◌≤◌, ◌<◌}
 use native.Mathlib.Nat.{pow-suc}
 use native.Mathlib.Omega.{arith}
@@ -8,13 +9,7 @@ use mathlib.Core.Path.{◌≡◌, refl, ap, ◌∙◌}
 use mathlib.Core.List.{List, [], ◌∷◌, ◌++◌, map}
 use lib.Dec.{eqb}
 use lib.ListN.{length, length-append}
-use Rattle.base.specs.Seq.{keep}
-use Rattle.base.specs.declared.types.MaybeId.{MaybeId}
-use Rattle.base.specs.declared.types.MaybeId.TheVariants as id
-use Rattle.base.specs.declared.types.MaybeTime.{MaybeTime}
-use Rattle.base.specs.declared.types.MaybeTime.TheVariants as time
-use Rattle.base.specs.declared.types.MaybeLen.{MaybeLen}
-use Rattle.base.specs.declared.types.MaybeLen.TheVariants as len
+use Rattle.std.specs.List.{filter}
 use Rattle.octets.specs.Octets.{le, flat}
 use Rattle.octets.proofs.Fill.{le-length, flat_append}
 use Rattle.total.specs.Patterns.{etx_bits}
@@ -28,31 +23,31 @@ use Rattle.standing.specs.declared.types.Field.{Field}
 -- the widths of the fields that are there
 abbrev pub widths : List Field → ℕ
 widths [] = 0
-widths (f ∷ l) = width_of f.on f.width + widths l
+widths (f ∷ l) = width_of f + widths l
 
 pub flat-widths : (l : List Field) → length (flat bytes_in l) ≡ widths l
 unfolding flat
 flat-widths [] = refl
 flat-widths (f ∷ l) =
     length-append (bytes_in f) (flat bytes_in l)
-    ∙ (λ i. le-length (width_of f.on f.width) f.value i + flat-widths l i)
+    ∙ (λ i. le-length (width_of f) (unwrap_or f.value 0) i + flat-widths l i)
 
 -- 13 for the map, the ETX and the misses, and the widths of the bits that stand
 pub size_is : (s : Standing) → length (standing_bytes s) ≡ 13 + widths (fields_of s)
 unfolding standing_bytes
 size_is s = flat-widths (parts_of s) ∙ omega arith
 
-time-width : (x : MaybeTime) → width_of (time_field x).on (time_field x).width ≤ 8
-time-width time.None = omega arith
-time-width (time.Some t) = omega arith
+time-width : (x : Option ℕ) → width_of (time_field x) ≤ 8
+time-width None = omega arith
+time-width (Some t) = omega arith
 
-id-width : (x : MaybeId) → width_of (id_field x).on (id_field x).width ≤ 4
-id-width id.None = omega arith
-id-width (id.Some n) = omega arith
+id-width : (x : Option ℕ) → width_of (id_field x) ≤ 4
+id-width None = omega arith
+id-width (Some n) = omega arith
 
-len-width : (x : MaybeLen) → width_of (len_field x).on (len_field x).width ≤ 2
-len-width len.None = omega arith
-len-width (len.Some n) = omega arith
+len-width : (x : Option ℕ) → width_of (len_field x) ≤ 2
+len-width None = omega arith
+len-width (Some n) = omega arith
 
 pub size-least : (s : Standing) → 13 ≤ length (standing_bytes s)
 size-least s = omega (arith, size_is s)
@@ -98,24 +93,24 @@ map_below (false ∷ l) = omega (arith, map_below l, pow-suc 2 (length l))
 -- ---- the bytes
 
 -- what is missing brings none
-kept : (l : List Field) → flat bytes_in l ≡ flat (λ (f : Field). le f.width f.value) (keep (λ f. f.on) l)
+kept : (l : List Field) → flat bytes_in l ≡ flat (λ (f : Field). le f.width (unwrap_or f.value 0)) (filter (λ f. is_some f.value) l)
 unfolding flat le
 kept [] = refl
-kept (f ∷ l) = go f.on refl (kept l)
+kept (f ∷ l) = go (is_some f.value) refl (kept l)
   where
-    go : (on : Bool) → f.on ≡ on
-        → flat bytes_in l ≡ flat (λ (f : Field). le f.width f.value) (keep (λ f. f.on) l)
-        → flat bytes_in (f ∷ l) ≡ flat (λ (f : Field). le f.width f.value) (keep (λ f. f.on) (f ∷ l))
-    go true e k = rw e (ap (λ (r : List ℕ). le f.width f.value ++ r) k)
+    go : (on : Bool) → is_some f.value ≡ on
+        → flat bytes_in l ≡ flat (λ (f : Field). le f.width (unwrap_or f.value 0)) (filter (λ f. is_some f.value) l)
+        → flat bytes_in (f ∷ l) ≡ flat (λ (f : Field). le f.width (unwrap_or f.value 0)) (filter (λ f. is_some f.value) (f ∷ l))
+    go true e k = rw e (ap (λ (r : List ℕ). le f.width (unwrap_or f.value 0) ++ r) k)
     go false e k = rw e k
 
 -- the map in one byte, the fields whose bits stand, then the ETX and the misses
-pub bytes-are : (s : Standing) → standing_bytes s ≡ map_of (map (λ f. f.on) (fields_of s))
-    ∷ (flat (λ (f : Field). le f.width f.value) (keep (λ f. f.on) (fields_of s))
+pub bytes-are : (s : Standing) → standing_bytes s ≡ map_of (map (λ f. is_some f.value) (fields_of s))
+    ∷ (flat (λ (f : Field). le f.width (unwrap_or f.value 0)) (filter (λ f. is_some f.value) (fields_of s))
     ++ (le 8 (etx_bits s.etx) ++ le 4 s.misses))
 unfolding standing_bytes flat le
 bytes-are s =
-    let m = map_of (map (λ f. f.on) (fields_of s)) in
-    let a : m % 256 ≡ m = omega (arith, map_below (map (λ f. f.on) (fields_of s))) in
+    let m = map_of (map (λ f. is_some f.value) (fields_of s)) in
+    let a : m % 256 ≡ m = omega (arith, map_below (map (λ f. is_some f.value) (fields_of s))) in
     (λ i. a i ∷ (flat_append bytes_in (fields_of s) (whole_field 8 (etx_bits s.etx) ∷ whole_field 4 s.misses ∷ []) i))
     ∙ (λ i. m ∷ (kept (fields_of s) i ++ (le 8 (etx_bits s.etx) ++ le 4 s.misses)))

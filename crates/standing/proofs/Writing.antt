@@ -1,5 +1,7 @@
 -- What a writer of a standing says and leaves, by whether the standing fits.
 -- Assumes nothing.
+use Rattle.std.specs.Prelude.{Result, Ok, Err}
+use Rattle.base.specs.declared.types.Refusal.{Refusal}
 use Prim.Native.Nat.{ℕ, zero, suc, ◌<◌, ◌≤◌}
 use native.Mathlib.Omega.{arith}
 use mathlib.Core.Bool.{true, false}
@@ -16,8 +18,6 @@ use Rattle.rules.specs.declared.types.Slot.{Slot}
 use Rattle.standing.specs.Standing.{standing_of, parts_of, bytes_in, standing_bytes, written_of, slot_written, slot_out}
 use Rattle.standing.specs.declared.types.Standing.{Standing}
 use Rattle.standing.specs.declared.types.Field.{Field}
-use Rattle.standing.specs.declared.types.Written.{Written}
-use Rattle.standing.specs.declared.types.Written.TheVariants as written
 
 module _ (s : Standing) (l : List ℕ) (fs : List Field) (e : fs ≡ parts_of s) where
   bytes : flat bytes_in fs ≡ standing_bytes s
@@ -26,7 +26,7 @@ module _ (s : Standing) (l : List ℕ) (fs : List Field) (e : fs ≡ parts_of s)
 
   -- too few bytes are lent
   pub written-not : {n : ℕ} → n ≡ length (flat bytes_in fs) → length l < n
-      → (written.Refused refusal.Lent ≡ written_of s (length l)) × (l ≡ over (standing_bytes s) l)
+      → (Err refusal.Lent ≡ written_of s (length l)) × (l ≡ over (standing_bytes s) l)
   unfolding written_of
   written-not {n} q h =
       let k : length l < length (standing_bytes s) = omega (arith, q, ap length bytes) in
@@ -34,12 +34,12 @@ module _ (s : Standing) (l : List ℕ) (fs : List Field) (e : fs ≡ parts_of s)
 
   -- all is written
   pub written-whole : {m : List ℕ} {at : ℕ} → Filled l (flat bytes_in fs) m at
-      → (written.Count at ≡ written_of s (length l)) × (m ≡ over (standing_bytes s) l)
+      → (Ok at ≡ written_of s (length l)) × (m ≡ over (standing_bytes s) l)
   unfolding written_of
   written-whole {m} {at} f =
       let q : length (standing_bytes s) ≡ at = ap length (sym bytes) ∙ f.long in
       let k : length (standing_bytes s) ≤ length l = omega (arith, q, f.room) in (
-        rw (le-leb (length (standing_bytes s)) (length l) k) (ap (λ (n : ℕ). written.Count n) (sym q)),
+        rw (le-leb (length (standing_bytes s)) (length l) k) (ap (λ (n : ℕ). Ok n) (sym q)),
         filled-over f ∙ ap (λ (b : List ℕ). over b l) bytes,
       )
 
@@ -51,7 +51,7 @@ at-any (x ∷ l) (suc i) d d₂ h = at-any l i d d₂ (omega arith)
 
 -- of a slot of a record, by its slots
 module _ (r : List Slot) (i : ℕ) (l : List ℕ) where
-  pub slot-above : 7 < i → (written.Refused refusal.Slot ≡ slot_written r i (length l)) × (l ≡ slot_out r i l)
+  pub slot-above : 7 < i → (Err refusal.Slot ≡ slot_written r i (length l)) × (l ≡ slot_out r i l)
   unfolding slot_written slot_out
   slot-above h = (simp (lt-ltb 7 i h), simp (lt-ltb 7 i h))
 
@@ -60,14 +60,14 @@ module _ (r : List Slot) (i : ℕ) (l : List ℕ) where
     inside = at-any r i empty_slot d (omega (arith, eight))
 
     pub slot-empty : (get_or r i d).used ≡ false
-        → (written.Refused refusal.Empty ≡ slot_written r i (length l)) × (l ≡ slot_out r i l)
+        → (Err refusal.Empty ≡ slot_written r i (length l)) × (l ≡ slot_out r i l)
     unfolding slot_written slot_out
     slot-empty e =
         let u : (slot_with r i).used ≡ false = ap (λ (s : Slot). s.used) inside ∙ e in
         (simp (le-ltb 7 i h, u), simp (le-ltb 7 i h, u))
 
     pub slot-told : (get_or r i d).used ≡ true → {s : Standing} → s ≡ standing_of (get_or r i d).path
-        → {w : Written} {m : List ℕ} → (w ≡ written_of s (length l)) × (m ≡ over (standing_bytes s) l)
+        → {w : Result ℕ Refusal} {m : List ℕ} → (w ≡ written_of s (length l)) × (m ≡ over (standing_bytes s) l)
         → (w ≡ slot_written r i (length l)) × (m ≡ slot_out r i l)
     unfolding slot_written slot_out
     slot-told e {s} q {w} {m} k =

@@ -1,15 +1,10 @@
 -- The standing of a path and its bytes (document 01, "Files and tail": "Standing of a path: map u8, then last, least
 -- and base RTT (u64), proven u16, answered u32, quiet u64 where their bits 0 to 5 stand, then ETX bits u64, misses
 -- u32").
-use Rattle.std.specs.Prelude.{ℕ, ◌+◌, ◌*◌, Bool, true, false, not, cond, ◌||◌, List, [], ◌∷◌, ◌++◌, map, leb, ltb, length}
+use Rattle.base.specs.declared.types.Refusal.{Refusal}
+use Rattle.std.specs.Prelude.{ℕ, ◌+◌, ◌*◌, Bool, not, cond, ◌||◌, List, [], ◌∷◌, ◌++◌, map, leb, ltb, length, Option, Some, is_some, unwrap_or, Result, Ok, Err}
 use Rattle.base.specs.Refusals.{refusal_number}
 use Rattle.base.specs.Seq.{flag_of}
-use Rattle.base.specs.declared.types.MaybeId.{MaybeId}
-use Rattle.base.specs.declared.types.MaybeId.TheVariants as id
-use Rattle.base.specs.declared.types.MaybeTime.{MaybeTime}
-use Rattle.base.specs.declared.types.MaybeTime.TheVariants as time
-use Rattle.base.specs.declared.types.MaybeLen.{MaybeLen}
-use Rattle.base.specs.declared.types.MaybeLen.TheVariants as len
 use Rattle.base.specs.declared.types.Refusal.TheVariants as refusal
 use Rattle.octets.specs.Octets.{le, flat, over}
 use Rattle.rtt.specs.Samples.{min_rtt}
@@ -20,8 +15,6 @@ use Rattle.rules.specs.Step.{slot_with}
 use Rattle.rules.specs.declared.types.Slot.{Slot}
 use Rattle.standing.specs.declared.types.Standing.{Standing}
 use Rattle.standing.specs.declared.types.Field.{Field}
-use Rattle.standing.specs.declared.types.Written.{Written}
-use Rattle.standing.specs.declared.types.Written.TheVariants as written
 
 -- what is told of a path: the last RTT, the least of the window's samples, the least over the horizon's spans, the
 -- proven size, the newest identifier answered in time, the first send's instant, the ETX and the misses
@@ -40,27 +33,21 @@ standing_of p =
 
 -- ---- fields
 
--- a field of w bytes that is there, and one that is missing
+-- a field of w bytes that is there
 abbrev pub whole_field : ℕ → ℕ → Field
-whole_field w x = record { value = x; width = w; on = true }
-
-abbrev pub missing : ℕ → Field
-missing w = record { value = 0; width = w; on = false }
+whole_field w x = record { value = Some x; width = w }
 
 -- an RTT or an instant: u64
-abbrev pub time_field : MaybeTime → Field
-time_field time.None = missing 8
-time_field (time.Some t) = whole_field 8 t
+abbrev pub time_field : Option ℕ → Field
+time_field x = record { value = x; width = 8 }
 
 -- answered: u32
-abbrev pub id_field : MaybeId → Field
-id_field id.None = missing 4
-id_field (id.Some x) = whole_field 4 x
+abbrev pub id_field : Option ℕ → Field
+id_field x = record { value = x; width = 4 }
 
 -- proven: u16
-abbrev pub len_field : MaybeLen → Field
-len_field len.None = missing 2
-len_field (len.Some n) = whole_field 2 n
+abbrev pub len_field : Option ℕ → Field
+len_field x = record { value = x; width = 2 }
 
 -- "last, least and base RTT (u64), proven u16, answered u32, quiet u64"
 abbrev pub fields_of : Standing → List Field
@@ -76,21 +63,18 @@ map_of (on ∷ l) = flag_of on + 2 * map_of l
 -- "map u8, then .., then ETX bits u64, misses u32"
 abbrev pub parts_of : Standing → List Field
 parts_of s =
-    whole_field 1 (map_of (map (λ f. f.on) (fields_of s)))
+    whole_field 1 (map_of (map (λ f. is_some f.value) (fields_of s)))
     ∷ (fields_of s ++ (whole_field 8 (etx_bits s.etx) ∷ whole_field 4 s.misses ∷ []))
 
 -- ---- bytes
 
--- the width of a field, 0 where it is missing
-abbrev pub width_of : Bool → ℕ → ℕ
-width_of on w = cond on w 0
+-- the bytes of a field: its width, or none where it is missing
+abbrev pub width_of : Field → ℕ
+width_of f = cond (is_some f.value) f.width 0
 
--- the bytes of a field, the lowest first; none where it is missing
-abbrev pub part_bytes : Bool → ℕ → ℕ → List ℕ
-part_bytes on w x = le (width_of on w) x
-
+-- and which, the lowest first
 abbrev pub bytes_in : Field → List ℕ
-bytes_in f = part_bytes f.on f.width f.value
+bytes_in f = le (width_of f) (unwrap_or f.value 0)
 
 -- "Each field is written into the part of the lent bytes that starts after the field before it."
 unfoldable pub standing_bytes : Standing → List ℕ
@@ -100,27 +84,27 @@ standing_bytes s = flat bytes_in (parts_of s)
 
 -- "For each case of an enum answer, a definition gives this paper's number and values.": 0 or the refusal number, and
 -- the count of bytes; "A refusal gives its number and value 0."
-abbrev pub written_number : Written → ℕ
-written_number (written.Count n) = 0
-written_number (written.Refused why) = refusal_number why
+abbrev pub written_number : Result ℕ Refusal → ℕ
+written_number (Ok n) = 0
+written_number (Err why) = refusal_number why
 
-abbrev pub written_value : Written → ℕ
-written_value (written.Count n) = n
-written_value (written.Refused why) = 0
+abbrev pub written_value : Result ℕ Refusal → ℕ
+written_value (Ok n) = n
+written_value (Err why) = 0
 
 -- "16: fewer lent bytes than the standing needs"; "The count written is returned"
-abbrev pub fit : List ℕ → ℕ → Written
-fit bytes lent = cond (leb (length bytes) lent) (written.Count (length bytes)) (written.Refused refusal.Lent)
+abbrev pub fit : List ℕ → ℕ → Result ℕ Refusal
+fit bytes lent = cond (leb (length bytes) lent) (Ok (length bytes)) (Err refusal.Lent)
 
 -- "bytes past it are unchanged", and all of them on a refusal: the lent bytes l are then `over (standing_bytes s) l`
-unfoldable pub written_of : Standing → ℕ → Written
+unfoldable pub written_of : Standing → ℕ → Result ℕ Refusal
 written_of s lent = fit (standing_bytes s) lent
 
 -- of a slot of a record, by its slots: 1 above 7, 2 where it is empty, then 16
-unfoldable pub slot_written : List Slot → ℕ → ℕ → Written
+unfoldable pub slot_written : List Slot → ℕ → ℕ → Result ℕ Refusal
 slot_written s i lent =
-    cond (ltb 7 i) (written.Refused refusal.Slot)
-    (cond (slot_with s i).used (written_of (standing_of (slot_with s i).path) lent) (written.Refused refusal.Empty))
+    cond (ltb 7 i) (Err refusal.Slot)
+    (cond (slot_with s i).used (written_of (standing_of (slot_with s i).path) lent) (Err refusal.Empty))
 
 -- a refusal leaves the lent bytes as they are
 unfoldable pub slot_out : List Slot → ℕ → List ℕ → List ℕ

@@ -3,7 +3,7 @@
 
 ghost use Rattle.std.specs.Prelude.{◌≡◌, ◌≤◌, length};
 ghost use Rattle.octets.specs.Octets.{flat, over};
-ghost use Rattle.standing.specs.Standing.{part_bytes, bytes_in, standing_bytes, written_of, width_of};
+ghost use Rattle.standing.specs.Standing.{bytes_in, standing_bytes, written_of, width_of};
 
 use base::types::*;
 use types::*;
@@ -12,18 +12,18 @@ pub mod layout;
 pub mod types;
 
 // The bytes of a field: none where it is missing.
-fn width(on: bool, w: u8) -> usize
-    ensures { (result ≡ width_of on w) × (result ≤ 255) }
+fn width(f: Field) -> usize
+    ensures { (result ≡ width_of f) × (result ≤ 255) }
 {
-    if on { w as usize } else { 0 }
+    f.value.map_or(0, |_| usize::from(f.width))
 }
 
 // Writes a field over the front of `out`, or nothing where it is missing or does not fit; says how many bytes it has.
-fn field(out: &mut [u8], on: bool, w: u8, x: u64) -> usize
-    ensures { (result ≡ width_of on w) × (out.new ≡ over (part_bytes on w x) out.old) }
+fn field(out: &mut [u8], f: Field) -> usize
+    ensures { (result ≡ width_of f) × (out.new ≡ over (bytes_in f) out.old) }
 {
-    let n = width(on, w);
-    octets::put(out, n, x);
+    let n = width(f);
+    octets::put(out, n, f.value.unwrap_or(0));
     n
 }
 
@@ -32,11 +32,8 @@ fn total(parts: [Field; 9]) -> usize
     ensures { result ≡ length (flat bytes_in parts) }
 {
     let mut n: usize = 0;
-    let mut i = 0;
-    while i < 9 {
-        let f = parts[i];
-        n += width(f.on, f.width);
-        i += 1;
+    for f in parts {
+        n += width(f);
     }
     n
 }
@@ -45,26 +42,22 @@ fn total(parts: [Field; 9]) -> usize
 pub fn size(s: Standing) -> usize
     ensures { (result ≡ length (standing_bytes s)) × (result ≤ 51) }
 {
-    let parts = layout::parts(s);
-    total(parts)
+    total(layout::parts(s))
 }
 
 // Writes a standing over the front of `out` and says how many bytes it has; or 16, and nothing is written. Each field
 // goes into the part that starts after the field before it.
-pub fn write(s: Standing, out: &mut [u8]) -> Written
+pub fn write(s: Standing, out: &mut [u8]) -> Result<usize, Refusal>
     ensures { (result ≡ written_of s (length out.old))
         × (out.new ≡ over (standing_bytes s) out.old) }
 {
     let parts = layout::parts(s);
     if out.len() < total(parts) {
-        return Written::Refused(Refusal::Lent);
+        return Err(Refusal::Lent);
     }
     let mut at: usize = 0;
-    let mut i = 0;
-    while i < 9 {
-        let f = parts[i];
-        at += field(&mut out[at..], f.on, f.width, f.value);
-        i += 1;
+    for f in parts {
+        at += field(&mut out[at..], f);
     }
-    Written::Count(at)
+    Ok(at)
 }

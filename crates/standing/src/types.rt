@@ -5,27 +5,19 @@ use base::types::*;
 // and its misses.
 #[derive(Clone, Copy)]
 pub struct Standing {
-    pub last: MaybeTime,
-    pub least: MaybeTime,
-    pub base: MaybeTime,
-    pub quiet: MaybeTime,
+    pub last: Option<u64>,
+    pub least: Option<u64>,
+    pub base: Option<u64>,
+    pub quiet: Option<u64>,
     pub etx: f64,
-    pub answered: MaybeId,
+    pub answered: Option<u32>,
     pub misses: u32,
-    pub proven: MaybeLen,
+    pub proven: Option<u16>,
 }
 
-// A field: whether it is there, its width in bytes and its number.
+// A field: its number, where it is there, and its width in bytes.
 #[derive(Clone, Copy)]
 pub struct Field {
-    pub value: u64,
+    pub value: Option<u64>,
     pub width: u8,
-    pub on: bool,
-}
-
-// How many bytes were written, or why none were.
-#[derive(Clone, Copy)]
-pub enum Written {
-    Count(usize),
-    Refused(Refusal),
 }

@@ -3,13 +3,9 @@
 -- until, else doubled to at most 30 s; owed cleared. If owed, `rebase` clears it and, if ok, lifts free to at least at
 -- + used"; `owe`, `stopped`, `held` and `recheck` as in the Rust), and its silence ("Ring and late list": "`quiet`
 -- keeps the first send's instant"). Times are nanoseconds, an instant + duration is `deadline_of`.
-use Rattle.std.specs.Prelude.{ℕ, ◌*◌, ◌^◌, min, max, Bool, true, false, cond, ltb}
+use Rattle.std.specs.Prelude.{ℕ, ◌*◌, ◌^◌, min, max, Bool, true, false, cond, ltb, Option, None, Some}
 use Rattle.base.specs.Time.{deadline_of}
-use Rattle.base.specs.declared.types.MaybeTime.{MaybeTime}
-use Rattle.base.specs.declared.types.MaybeTime.TheVariants as time
 use Rattle.stop.specs.declared.types.Stop.{Stop}
-use Rattle.stop.specs.declared.types.MaybeStop.{MaybeStop}
-use Rattle.stop.specs.declared.types.MaybeStop.TheVariants.{None, Some}
 use Rattle.stop.specs.declared.types.Silence.{Silence}
 
 -- so many seconds
@@ -18,28 +14,28 @@ seconds n = n * 10 ^ 9
 
 -- no send yet, and not stopped
 abbrev pub new_silence : Silence
-new_silence = record { stop = None; quiet = time.None }
+new_silence = record { stop = None; quiet = None }
 
 -- quiet, else at
-abbrev pub from_of : MaybeTime → ℕ → ℕ
-from_of time.None at = at
-from_of (time.Some t) at = t
+abbrev pub from_of : Option ℕ → ℕ → ℕ
+from_of None at = at
+from_of (Some t) at = t
 
 -- quiet keeps the first send's instant
 abbrev pub quiet_from : Silence → ℕ → Silence
-quiet_from s at = record { stop = s.stop; quiet = time.Some (from_of s.quiet at) }
+quiet_from s at = record { stop = s.stop; quiet = Some (from_of s.quiet at) }
 
 -- if active, quiet (else at) + 30 s
-abbrev pub until_of : MaybeTime → ℕ → Bool → MaybeTime
-until_of quiet at active = cond active (time.Some (deadline_of 64 (from_of quiet at) (seconds 30))) time.None
+abbrev pub until_of : Option ℕ → ℕ → Bool → Option ℕ
+until_of quiet at active = cond active (Some (deadline_of 64 (from_of quiet at) (seconds 30))) None
 
 -- free = at + 1 s, gap and used 1 s; if active, until = quiet (else at) + 30 s
-abbrev pub first_stop : MaybeTime → ℕ → Bool → Stop
+abbrev pub first_stop : Option ℕ → ℕ → Bool → Stop
 first_stop quiet at active =
     record { free = deadline_of 64 at (seconds 1); gap = seconds 1; used = seconds 1; until = until_of quiet at active; owed = false }
 
 -- unless stopped: a stop that there is stays
-abbrev pub halt_in : MaybeStop → Stop → MaybeStop
+abbrev pub halt_in : Option Stop → Stop → Option Stop
 halt_in None x = Some x
 halt_in (Some y) x = Some y
 
@@ -48,7 +44,7 @@ abbrev pub halt_of : Silence → ℕ → Bool → Silence
 halt_of s at active = record { stop = halt_in s.stop (first_stop s.quiet at active); quiet = s.quiet }
 
 -- only while stopped: what f makes of the stop
-abbrev pub stop_after : (Stop → Stop) → MaybeStop → MaybeStop
+abbrev pub stop_after : (Stop → Stop) → Option Stop → Option Stop
 stop_after f None = None
 stop_after f (Some x) = Some (f x)
 
@@ -57,9 +53,9 @@ abbrev pub while_stopped : (Stop → Stop) → Silence → Silence
 while_stopped f s = record { stop = stop_after f s.stop; quiet = s.quiet }
 
 -- before until, where there is one
-abbrev pub is_before : ℕ → MaybeTime → Bool
-is_before at time.None = false
-is_before at (time.Some u) = ltb at u
+abbrev pub is_before : ℕ → Option ℕ → Bool
+is_before at None = false
+is_before at (Some u) = ltb at u
 
 -- 1 s before until, else doubled to at most 30 s
 abbrev pub gap_after : ℕ → Stop → ℕ
@@ -91,7 +87,7 @@ abbrev pub rebase_of : Silence → ℕ → Bool → Silence
 rebase_of s at ok = while_stopped (rebased_stop at ok) s
 
 -- there is a stop
-abbrev pub is_stopped : MaybeStop → Bool
+abbrev pub is_stopped : Option Stop → Bool
 is_stopped None = false
 is_stopped (Some x) = true
 
@@ -100,24 +96,24 @@ abbrev pub stopped_of : Silence → Bool
 stopped_of s = is_stopped s.stop
 
 -- the stop's free instant
-abbrev pub free_of : MaybeStop → MaybeTime
-free_of None = time.None
-free_of (Some x) = time.Some x.free
+abbrev pub free_of : Option Stop → Option ℕ
+free_of None = None
+free_of (Some x) = Some x.free
 
 -- `held`: while stopped, the instant from which the next probe may go
-abbrev pub held_until : Silence → MaybeTime
+abbrev pub held_until : Silence → Option ℕ
 held_until s = free_of s.stop
 
 -- the gap, where there is an until
-abbrev pub gap_with : MaybeTime → ℕ → MaybeTime
-gap_with time.None gap = time.None
-gap_with (time.Some u) gap = time.Some gap
+abbrev pub gap_with : Option ℕ → ℕ → Option ℕ
+gap_with None gap = None
+gap_with (Some u) gap = Some gap
 
 -- the stop's gap, where it has an until
-abbrev pub recheck_in : MaybeStop → MaybeTime
-recheck_in None = time.None
+abbrev pub recheck_in : Option Stop → Option ℕ
+recheck_in None = None
 recheck_in (Some x) = gap_with x.until x.gap
 
 -- `recheck`: while stopped with an until, the least gap after the next probe
-abbrev pub recheck_of : Silence → MaybeTime
+abbrev pub recheck_of : Silence → Option ℕ
 recheck_of s = recheck_in s.stop

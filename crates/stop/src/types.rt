@@ -2,8 +2,6 @@
 ghost use Rattle.std.specs.Prelude.{◌≡◌};
 ghost use Rattle.stop.specs.Silence.{new_silence};
 
-use base::types::MaybeTime;
-
 // A stop: the instant from which the next probe may go, the least gap after it, the gap that the latest one used, the
 // instant until which the path is rechecked, and whether the latest slot is owed to a connection.
 #[derive(Clone, Copy)]
@@ -11,22 +9,15 @@ pub struct Stop {
     pub free: u64,
     pub gap: u64,
     pub used: u64,
-    pub until: MaybeTime,
+    pub until: Option<u64>,
     pub owed: bool,
-}
-
-// A stop, or none.
-#[derive(Clone, Copy)]
-pub enum MaybeStop {
-    None,
-    Some(Stop),
 }
 
 // The stop, while there is one, and the instant of the first probe ever sent into the ring.
 #[derive(Clone, Copy)]
 pub struct Silence {
-    pub stop: MaybeStop,
-    pub quiet: MaybeTime,
+    pub stop: Option<Stop>,
+    pub quiet: Option<u64>,
 }
 
 impl Silence {
@@ -34,11 +25,9 @@ impl Silence {
     pub fn new() -> Self
         ensures { result ≡ new_silence }
     {
-        let stop = MaybeStop::None;
-        let quiet = MaybeTime::None;
         Silence {
-            stop: stop,
-            quiet: quiet,
+            stop: None,
+            quiet: None,
         }
     }
 }

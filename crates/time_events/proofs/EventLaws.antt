@@ -1,9 +1,8 @@
 -- What the stores of each event on round trips, ETX and data leave.
 -- Assumes nothing.
-use Rattle.std.proofs.Common.{◌≡◌, ℕ, ◌+◌, ◌%◌, ◌^◌, ◌<◌, ◌≤◌, Bool, true, false, T, List, length, get_or, set, sym, refl, ap, ◌∙◌, le-ltb, lt-ltb, le-leb}
+use Rattle.std.proofs.Common.{◌≡◌, ℕ, ◌+◌, ◌%◌, ◌^◌, ◌<◌, ◌≤◌, Bool, true, false, T, List, length, get_or, set, sym, refl, ap, ◌∙◌, le-ltb, lt-ltb, le-leb, Some, Ok}
 use borrow.Author.Tests.{lt-leb}
 use lib.Ieee.{Float, nan, inf, fin, binary64, fits, of_bits, to_bits, le, is_nan}
-use Rattle.base.specs.declared.types.MaybeTime.TheVariants as time
 use Rattle.etx.specs.Etx.{one, fold_of}
 use Rattle.etx.proofs.WithinLaws.{fold-within}
 use Rattle.total.specs.Patterns.{etx_bits}
@@ -31,9 +30,9 @@ module _ (a : List (List ℕ)) {b : List (List ℕ)} (n now : ℕ) {t : Traffic}
   pub received-over : 65535 < n
       → Says a b
       (with_traffic (path_in a)
-      (record { heard_at = t.heard_at; data_at = time.Some now; frames = t.frames; bytes = t.bytes }))
-      → Turns a b reply.Nothing
-      (turn (slot_in a) (carried_of (heard_of (path_in a) n now).path now) reply.Nothing)
+      (record { heard_at = t.heard_at; data_at = Some now; frames = t.frames; bytes = t.bytes }))
+      → Turns a b (Ok reply.Nothing)
+      (turn (slot_in a) (carried_of (heard_of (path_in a) n now).path now) (Ok reply.Nothing))
   unfolding heard_of
   received-over h w =
       turns-by
@@ -42,7 +41,7 @@ module _ (a : List (List ℕ)) {b : List (List ℕ)} (n now : ℕ) {t : Traffic}
       (ap
       (λ (x : Traffic).
       with_traffic (path_in a)
-      (record { heard_at = x.heard_at; data_at = time.Some now; frames = x.frames; bytes = x.bytes }))
+      (record { heard_at = x.heard_at; data_at = Some now; frames = x.frames; bytes = x.bytes }))
       e)))
       refl refl
 
@@ -50,9 +49,9 @@ module _ (a : List (List ℕ)) {b : List (List ℕ)} (n now : ℕ) {t : Traffic}
   pub received-made : {f g : ℕ} → n ≤ 65535 → f ≡ (t.frames + 1) % 2 ^ 32 → g ≡ (t.bytes + n) % 2 ^ 32
       → Says a b
       (with_traffic (path_in a)
-      (record { heard_at = time.Some now; data_at = time.Some now; frames = f; bytes = g }))
-      → Turns a b reply.Nothing
-      (turn (slot_in a) (carried_of (heard_of (path_in a) n now).path now) reply.Nothing)
+      (record { heard_at = Some now; data_at = Some now; frames = f; bytes = g }))
+      → Turns a b (Ok reply.Nothing)
+      (turn (slot_in a) (carried_of (heard_of (path_in a) n now).path now) (Ok reply.Nothing))
   unfolding heard_of
   received-made {f} {g} h p q w =
       let p' : f ≡ ((path_in a).traffic.frames + 1) % 2 ^ 32 =
@@ -63,7 +62,7 @@ module _ (a : List (List ℕ)) {b : List (List ℕ)} (n now : ℕ) {t : Traffic}
       (rw (le-ltb 65535 n h)
       (λ j.
       with_traffic (path_in a)
-      (record { heard_at = time.Some now; data_at = time.Some now; frames = p' j; bytes = q' j }))))
+      (record { heard_at = Some now; data_at = Some now; frames = p' j; bytes = q' j }))))
       refl refl
 
 -- ---- fold
@@ -89,7 +88,7 @@ etx-stored a n {x} h e f =
 -- the ETX stored
 pub fold-made : {a b : List (List ℕ)} (on : Bool) {x y : Float} → x ≡ (path_in a).etx → y ≡ fold_of x on
     → Says a b (with_etx (path_in a) y)
-    → Turns a b reply.Nothing (turn (slot_in a) (folded_of (path_in a) on) reply.Nothing)
+    → Turns a b (Ok reply.Nothing) (turn (slot_in a) (folded_of (path_in a) on) (Ok reply.Nothing))
 fold-made {a} {b} on e f w =
     turns-by (says-as w (ap (with_etx (path_in a)) (f ∙ ap (λ (z : Float). fold_of z on) e))) refl refl
 
@@ -159,19 +158,19 @@ module _ {a b : List (List ℕ)} (now x horizon : ℕ) {slot : ℕ} {s : Span}
 module _ (a : List (List ℕ)) (now x window horizon : ℕ) where
   -- an endless round trip
   pub sample-endless : 2 ^ 62 ≤ x
-      → Turns a a reply.Nothing (turn (slot_in a) (sample_of (path_in a) now x window horizon).path reply.Nothing)
+      → Turns a a (Ok reply.Nothing) (turn (slot_in a) (sample_of (path_in a) now x window horizon).path (Ok reply.Nothing))
   unfolding sample_of
   sample-endless h = turns-none refl (rw (le-leb (2 ^ 62) x h) refl)
 
   -- an endless window
   pub sample-window : x < 2 ^ 62 → 2 ^ 62 ≤ window
-      → Turns a a reply.Nothing (turn (slot_in a) (sample_of (path_in a) now x window horizon).path reply.Nothing)
+      → Turns a a (Ok reply.Nothing) (turn (slot_in a) (sample_of (path_in a) now x window horizon).path (Ok reply.Nothing))
   unfolding sample_of
   sample-window h k = turns-none refl (rw (lt-leb (2 ^ 62) x h, le-leb (2 ^ 62) window k) refl)
 
   -- an endless horizon
   pub sample-horizon : x < 2 ^ 62 → window < 2 ^ 62 → 2 ^ 62 ≤ horizon
-      → Turns a a reply.Nothing (turn (slot_in a) (sample_of (path_in a) now x window horizon).path reply.Nothing)
+      → Turns a a (Ok reply.Nothing) (turn (slot_in a) (sample_of (path_in a) now x window horizon).path (Ok reply.Nothing))
   unfolding sample_of
   sample-horizon h k l =
       turns-none refl (rw (lt-leb (2 ^ 62) x h, lt-leb (2 ^ 62) window k, le-leb (2 ^ 62) horizon l) refl)
@@ -180,14 +179,14 @@ module _ (a : List (List ℕ)) (now x window horizon : ℕ) where
   pub sample-made : {b c d : List (List ℕ)} → x < 2 ^ 62 → window < 2 ^ 62 → horizon < 2 ^ 62
       → Says a b (with_samples (path_in a) (with_sample now x window (path_in a).rtts.samples))
       → Says b c (with_spans (path_in b) (span_of now x horizon (path_in b).rtts.spans))
-      → Says c d (with_trip (path_in c) (time.Some x))
-      → Turns a d reply.Nothing (turn (slot_in a) (sample_of (path_in a) now x window horizon).path reply.Nothing)
+      → Says c d (with_trip (path_in c) (Some x))
+      → Turns a d (Ok reply.Nothing) (turn (slot_in a) (sample_of (path_in a) now x window horizon).path (Ok reply.Nothing))
   unfolding sample_of
   sample-made h k i u v w =
       turns-by
       (says-as (says_then (says_then u v) w)
       (rw (lt-leb (2 ^ 62) x h, lt-leb (2 ^ 62) window k, lt-leb (2 ^ 62) horizon i)
-      (ap (λ (z : Liveness). with_trip z (time.Some x))
+      (ap (λ (z : Liveness). with_trip z (Some x))
       (v.path ∙ ap (λ (z : Liveness). with_spans z (span_of now x horizon z.rtts.spans)) u.path))))
       refl
       refl

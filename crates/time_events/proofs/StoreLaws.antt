@@ -4,16 +4,12 @@ use Rattle.std.proofs.Common.{◌≡◌, ℕ, suc, ◌+◌, ◌*◌, ◌<◌, �
 use lib.ListN.{length-map}
 use lib.Seq.{get_or_at, set-get_or}
 use Rattle.base.specs.Marked.{first_gap, first_leader, place}
-use Rattle.base.specs.Passes.{overtakes, catches}
-use Rattle.base.specs.Seq.{position}
+use Rattle.base.specs.Passes.{overtakes}
 use Rattle.base.proofs.FirstLaws.{Strict}
-use Rattle.base.proofs.MarkedLaws.{LeadsFirst, LeadsLast, first-take, first-skip, last-take, last-skip}
+use Rattle.base.proofs.MarkedLaws.{LeadsFirst, first-take, first-skip}
 use Rattle.base.proofs.MarkedLaws.{place-gap, place-leader}
-use Rattle.base.proofs.ScanLaws.{Mapping, mapping-start, mapping-next, mapping-end}
-use Rattle.base.proofs.SeqLaws.{Searched, searched-here, searched-next}
+use Rattle.base.proofs.ScanLaws.{Mapping, mapping-start, mapping-next}
 use Rattle.live.specs.declared.types.Liveness.{Liveness}
-use Rattle.rtt.specs.Samples.{no_sample, is_old, kept_sample}
-use Rattle.rtt.specs.declared.types.Sample.{Sample}
 use Rattle.rows.specs.Parts.{with_samples, with_spans}
 use Rattle.rows.specs.View.{path_in}
 use Rattle.rows.specs.Says.{Says}
@@ -151,38 +147,7 @@ module _ {A : Type 0} {get : Liveness → List A} {put : Liveness → List A →
       let q : 2 * k + 1 + 1 ≡ 2 * (k + 1) = omega arith in
       subst (λ (x : ℕ). Dropping get put t z n a e x) q (dropping-one d (dropping-one d w (omega arith) u) h v)
 
-  -- all of them
-  pub dropping-end : {b : List (List ℕ)} {i : ℕ} → Dropping get put t z n a b i → n ≤ i
-      → Says a b (put (path_in a) (map (cleared t z) (get (path_in a))))
-  dropping-end w h = says-as w.says (ap (put (path_in a)) (mapping-end w.maps h))
-
--- a place of the samples cleared, or left
-module _ (a : List (List ℕ)) (i at window : ℕ) {s : Sample} (e : s ≡ get_or (path_in a).rtts.samples i no_sample) where
-  pub forgot : {b : List (List ℕ)} {z : Sample} → is_old at window s ≡ true → z ≡ no_sample
-      → Says a b (with_samples (path_in a) (set (path_in a).rtts.samples i z))
-      → Says a b (with_samples (path_in a) (set (path_in a).rtts.samples i (kept_sample at window (get_or (path_in a).rtts.samples i no_sample))))
-  forgot q m w =
-      let k : kept_sample at window s ≡ no_sample = rw q in
-      says-as w (ap (λ (x : Sample). with_samples (path_in a) (set (path_in a).rtts.samples i x)) (m ∙ sym k ∙ ap (kept_sample at window) e))
-
-  pub remembered : is_old at window s ≡ false
-      → Says a a (with_samples (path_in a) (set (path_in a).rtts.samples i (kept_sample at window (get_or (path_in a).rtts.samples i no_sample))))
-  remembered q =
-      let k : kept_sample at window s ≡ s = rw q in
-      says_none
-      (ap (with_samples (path_in a)) (sym (set-get_or (path_in a).rtts.samples i no_sample))
-      ∙ ap (λ (x : Sample). with_samples (path_in a) (set (path_in a).rtts.samples i x)) (sym e ∙ sym k ∙ ap (kept_sample at window) e))
-
 -- ---- passes over a list whose places are read one by one: s is the place's
-
-module _ {A : Type 0} {p : A → Bool} {l : List A} {n i : ℕ} (d : A) {s : A} where
-  -- a search that ends here
-  pub seen_here : Searched p l n i → i < n → s ≡ get_or l i d → p s ≡ true → i ≡ position p l
-  seen_here w h e q = searched-here d w h (ap p (sym e) ∙ q)
-
-  -- and one that goes on
-  pub seen_next : Searched p l n i → i < n → s ≡ get_or l i d → p s ≡ false → Searched p l n (i + 1)
-  seen_next w h e q = searched-next d w h (ap p (sym e) ∙ q)
 
 module _ {A : Type 0} {held : A → Bool} {before : A → A → Bool} {d : A} {l : List A} {n : ℕ} (order : Strict before)
     {b : A} {k i : ℕ} {s : A} where
@@ -196,17 +161,6 @@ module _ {A : Type 0} {held : A → Bool} {before : A → A → Bool} {d : A} {l
   pub leads-skip : LeadsFirst held before d l n b k i → i < n → s ≡ get_or l i d → overtakes held before s b ≡ false
       → LeadsFirst held before d l n b k (i + 1)
   leads-skip w h e q = first-skip order w h (ap (λ (x : A). overtakes held before x b) (sym e) ∙ q)
-
-  -- one that leads those before it, of equals the last
-  pub trails-take : LeadsLast held before d l n b k i → i < n → s ≡ get_or l i d → catches held before s b ≡ true
-      → LeadsLast held before d l n s i (i + 1)
-  trails-take w h e q =
-      rw e (last-take order w h (ap (λ (x : A). catches held before x b) (sym e) ∙ q))
-
-  -- and one that does not
-  pub trails-skip : LeadsLast held before d l n b k i → i < n → s ≡ get_or l i d → catches held before s b ≡ false
-      → LeadsLast held before d l n b k (i + 1)
-  trails-skip w h e q = last-skip order w h (ap (λ (x : A). catches held before x b) (sym e) ∙ q)
 
 -- ---- the place for a new one
 

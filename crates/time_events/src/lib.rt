@@ -12,71 +12,73 @@ use base::types::*;
 use live::types::Traffic;
 use rowmeasures::*;
 use rows::places::*;
-use rows::probes::*;
 use rules::types::*;
 
 pub mod horizon;
+pub mod places;
 pub mod window;
 
 // Data: heard, then carried; a frame that is too long is carried and not counted.
-pub fn received(p: &mut [[u64; 4]; ROWS], e: Event) -> Reply
+pub fn received(p: &mut [[u64; 4]; ROWS], e: Event) -> Result<Reply, Refusal>
     ensures { Turns p.old p.new result (turn (slot_in p.old)
-        (carried_of (heard_of (path_in p.old) e.len e.now).path e.now) Nothing) }
+        (carried_of (heard_of (path_in p.old) e.len e.now).path e.now) (Ok Nothing)) }
 {
     let old = traffic(p);
-    let len = e.len;
-    if MAX_LEN < len {
-        let heard_at = old.heard_at;
-        let carried = Traffic {
-            heard_at: heard_at,
-            data_at: MaybeTime::Some(e.now),
-            frames: old.frames,
-            bytes: old.bytes,
-        };
-        set_traffic(p, carried);
-        return Reply::Nothing;
+    if MAX_LEN < e.len {
+        set_traffic(
+            p,
+            Traffic {
+                data_at: Some(e.now),
+                ..old
+            },
+        );
+        return Ok(Reply::Nothing);
     }
-    let heard = Traffic {
-        heard_at: MaybeTime::Some(e.now),
-        data_at: MaybeTime::Some(e.now),
-        frames: std::num::wrapping_add_u32(old.frames, 1),
-        bytes: std::num::wrapping_add_u32(old.bytes, len),
-    };
-    set_traffic(p, heard);
-    Reply::Nothing
+    set_traffic(
+        p,
+        Traffic {
+            heard_at: Some(e.now),
+            data_at: Some(e.now),
+            frames: old.frames.wrapping_add(1),
+            bytes: old.bytes.wrapping_add(e.len),
+        },
+    );
+    Ok(Reply::Nothing)
 }
 
 // Fold: what it gives is no NaN, so its pattern is stored as it is.
-pub fn fold(p: &mut [[u64; 4]; ROWS], delivered: bool) -> Reply
+pub fn fold(p: &mut [[u64; 4]; ROWS], delivered: bool) -> Result<Reply, Refusal>
     ensures { Turns p.old p.new result
-        (turn (slot_in p.old) (folded_of (path_in p.old) delivered) Nothing) }
+        (turn (slot_in p.old) (folded_of (path_in p.old) delivered) (Ok Nothing)) }
 {
     let old = etx(p);
     let folded = etx::fold(old, delivered);
-    rows(p);
-    let bits = f64::to_bits(folded);
-    set_etx_word(p, bits);
-    Reply::Nothing
+    set_etx_word(p, folded.to_bits());
+    Ok(Reply::Nothing)
 }
 
 // Sample: an endless duration changes nothing.
-pub fn sample(p: &mut [[u64; 4]; ROWS], e: Event, window: u64, horizon: u64) -> Reply
+pub fn sample(
+    p: &mut [[u64; 4]; ROWS],
+    e: Event,
+    window: u64,
+    horizon: u64,
+) -> Result<Reply, Refusal>
     ensures { Turns p.old p.new result (turn (slot_in p.old)
-        (sample_of (path_in p.old) e.now e.span window horizon).path Nothing) }
+        (sample_of (path_in p.old) e.now e.span window horizon).path (Ok Nothing)) }
 {
     let trip = e.span;
     if DURATION_END <= trip {
-        return Reply::Nothing;
+        return Ok(Reply::Nothing);
     }
     if DURATION_END <= window {
-        return Reply::Nothing;
+        return Ok(Reply::Nothing);
     }
     if DURATION_END <= horizon {
-        return Reply::Nothing;
+        return Ok(Reply::Nothing);
     }
     crate::window::enter(p, e.now, trip, window);
     crate::horizon::enter(p, e.now, trip, horizon);
-    let last = MaybeTime::Some(trip);
-    set_trip(p, last);
-    Reply::Nothing
+    set_trip(p, Some(trip));
+    Ok(Reply::Nothing)
 }

@@ -1,15 +1,15 @@
 // The 32 samples of the window, in the slot's rows.
 ghost use Rattle.std.specs.Prelude.{◌≡◌, slice_index_or, slice_set};
-ghost use Rattle.base.specs.Marked.{first_gap};
-ghost use Rattle.rtt.specs.Samples.{no_sample, is_sample, kept_sample, kept_samples, oldest_sample, sample_place, with_sample};
+ghost use Rattle.rtt.specs.Samples.{no_sample, kept_sample, kept_samples, with_sample};
 ghost use Rattle.rows.specs.Parts.{with_samples};
 ghost use Rattle.rows.specs.Says.{Says};
+ghost use Rattle.rows.proofs.ViewLaws.{samples-length};
 ghost use Rattle.rows.specs.View.{path_in};
 ghost use Rattle.time_events.specs.Pairs.{led_of};
 
+use crate::places::*;
 use rowmeasures::*;
 use rows::places::*;
-use rows::probes::*;
 use rtt::types::*;
 use samples::*;
 
@@ -21,8 +21,7 @@ fn forget_at(p: &mut [[u64; 4]; ROWS], i: usize, at: u64, window: u64)
 {
     let s = sample(p, i);
     if is_old(s, at, window) {
-        let none = Sample::none();
-        set_sample(p, i, none);
+        set_sample(p, i, Sample::none());
     }
 }
 
@@ -31,32 +30,13 @@ fn forget(p: &mut [[u64; 4]; ROWS], at: u64, window: u64)
     ensures { Says p.old p.new
         (with_samples (path_in p.old) (kept_samples at window (path_in p.old).rtts.samples)) }
 {
-    rows(p);
-    let mut k: usize = 0;
-    while k < SAMPLES / 2 {
+    for k in 0..SAMPLES / 2 {
         forget_at(p, 2 * k, at, window);
         forget_at(p, 2 * k + 1, at, window);
-        k += 1;
     }
 }
 
-// The place of the first gap, or 32.
-fn gap(p: &[[u64; 4]; ROWS]) -> usize
-    ensures { result ≡ first_gap is_sample (path_in p.now).rtts.samples }
-{
-    rows(p);
-    let mut i: usize = 0;
-    while i < SAMPLES {
-        let s = sample(p, i);
-        if !s.used {
-            return i;
-        }
-        i += 1;
-    }
-    i
-}
-
-// The instant and the place of the oldest sample found so far; place 32 where there is none.
+// The instant and the place of the oldest sample found so far; place 32 where there is none, which is `led_of`'s form.
 #[derive(Clone, Copy)]
 pub struct Lead {
     pub at: u64,
@@ -68,41 +48,37 @@ fn led(l: Lead, s: Sample, i: usize) -> Lead
     ensures { result ≡ led_of l s i }
 {
     if s.used & (!(l.place < SAMPLES) | (s.at < l.at)) {
-        return Lead { at: s.at, place: i };
+        Lead { at: s.at, place: i }
+    } else {
+        l
     }
-    l
 }
 
-// The place of the oldest sample, the first of equals, or 32; two at a turn.
-fn oldest(p: &[[u64; 4]; ROWS]) -> usize
-    ensures { result ≡ oldest_sample (path_in p.now).rtts.samples }
-{
-    rows(p);
-    let mut l = Lead {
-        at: 0,
-        place: SAMPLES,
-    };
-    let mut k: usize = 0;
-    while k < SAMPLES / 2 {
-        let s = sample(p, 2 * k);
-        let m = led(l, s, 2 * k);
-        let t = sample(p, 2 * k + 1);
-        l = led(m, t, 2 * k + 1);
-        k += 1;
-    }
-    l.place
-}
+impl Placed for Sample {
+    ghost PLACES = { 32 };
 
-// The place that a new sample takes: the first gap, else the oldest's.
-fn place(p: &[[u64; 4]; ROWS]) -> usize
-    ensures { result ≡ sample_place (path_in p.now).rtts.samples }
-{
-    rows(p);
-    let free = gap(p);
-    if free < SAMPLES {
-        return free;
+    ghost places = { λ a. (path_in a).rtts.samples };
+
+    const PLACES: usize = SAMPLES;
+
+    fn at(p: &[[u64; 4]; ROWS], i: usize) -> Sample {
+        sample(p, i)
     }
-    oldest(p)
+
+    // The place of the oldest sample, the first of equals, or 32; two at a turn.
+    fn oldest(p: &[[u64; 4]; ROWS]) -> usize {
+        let mut l = Lead {
+            at: 0,
+            place: SAMPLES,
+        };
+        for k in 0..SAMPLES / 2 {
+            l = led(l, sample(p, 2 * k), 2 * k);
+            l = led(l, sample(p, 2 * k + 1), 2 * k + 1);
+        }
+        l.place
+    }
+
+    ghost long = { samples-length };
 }
 
 // One more sample, those older than the window dropped.
@@ -111,11 +87,14 @@ pub fn enter(p: &mut [[u64; 4]; ROWS], at: u64, trip: u64, window: u64)
         (with_samples (path_in p.old) (with_sample at trip window (path_in p.old).rtts.samples)) }
 {
     forget(p, at, window);
-    let slot = place(p);
-    let s = Sample {
-        at: at,
-        rtt: trip,
-        used: true,
-    };
-    set_sample(p, slot, s);
+    let slot = place::<Sample>(p);
+    set_sample(
+        p,
+        slot,
+        Sample {
+            at,
+            rtt: trip,
+            used: true,
+        },
+    );
 }

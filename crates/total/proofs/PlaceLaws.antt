@@ -35,7 +35,8 @@ last = 0xfff8_0000_0000_0000
 
 -- ---- a float's pattern
 
-quiet-nan : float_of quiet ≡ nan
+-- the NaN's is the constant's
+pub quiet-nan : float_of quiet ≡ nan
 unfolding of_bits
 quiet-nan = refl
 

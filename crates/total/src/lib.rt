@@ -10,6 +10,7 @@ ghost use Rattle.total.specs.Patterns.{float_of, etx_bits};
 ghost use Rattle.total.specs.Places.{key_of, key_float, limit_key};
 
 // Where a pattern stands in totalOrder: a positive one counts up from 2^63, a negative one down from below it.
+#[tactic(auto, unfolding(crate::specs::Total::key_at))]
 pub fn order_key(b: u64) -> u64
     ensures { result ≡ key_at binary64 b }
 {
@@ -20,21 +21,24 @@ pub fn order_key(b: u64) -> u64
     }
 }
 
-// totalOrder of the patterns a and b: whether a comes not after b. NaNs of both signs and any payload are ordered.
+// totalOrder of the patterns a and b: whether a comes not after b. NaNs of both signs and any payload are ordered;
+// f64::total_cmp takes none.
 pub fn total_bits(a: u64, b: u64) -> bool
     ensures { result ≡ total_at binary64 a b }
 {
     order_key(a) <= order_key(b)
 }
 
-// Whether x comes not after y. A NaN stands where a positive quiet NaN stands, after +infinity.
+// Whether x comes not after y. A NaN, which f64::total_cmp takes not, stands where a positive quiet NaN stands, after
+// +infinity.
+#[tactic(auto, unfolding(crate::specs::Values::total_of))]
 pub fn total(x: f64, y: f64) -> bool
     ensures { result ≡ total_of x y }
 {
-    if y != y {
+    if y.is_nan() {
         return true;
     }
-    if x != x {
+    if x.is_nan() {
         return false;
     }
     if x < y {
@@ -64,7 +68,7 @@ fn lowered(x: f64, hi: f64) -> f64
 }
 
 // x where it lies within lo and hi, else the end that it is beyond. A NaN stays one. Where the ends are in their order,
-// this is two steps of the processor: its maximum, then its minimum.
+// this is two steps of the processor: its maximum, then its minimum. f64::clamp takes no ends out of order.
 pub fn clamp(x: f64, lo: f64, hi: f64) -> f64
     ensures { result ≡ clamp_of x lo hi }
 {
@@ -77,11 +81,11 @@ pub fn clamp(x: f64, lo: f64, hi: f64) -> f64
     lowered(raised(x, lo), hi)
 }
 
-// The larger of the two, the first of equal ones. A NaN gives the other.
+// The larger of the two, the first of equal ones, where f64::max gives either. A NaN gives the other.
 pub fn max(x: f64, y: f64) -> f64
     ensures { result ≡ max_of x y }
 {
-    if x != x {
+    if x.is_nan() {
         return y;
     }
     if x < y { y } else { x }
@@ -91,8 +95,8 @@ pub fn max(x: f64, y: f64) -> f64
 pub fn float_of(bits: u64) -> f64
     ensures { result ≡ float_of bits }
 {
-    if bits % 9223372036854775808 > 9218868437227405312 {
-        0.0 / 0.0
+    if bits % 0x8000_0000_0000_0000 > 0x7ff0_0000_0000_0000 {
+        f64::NAN
     } else {
         f64::from_bits(bits)
     }
@@ -102,14 +106,14 @@ pub fn float_of(bits: u64) -> f64
 pub fn etx_bits(x: f64) -> u64
     ensures { result ≡ etx_bits x }
 {
-    if x != x {
+    if x.is_nan() {
         return 0x7ff8_0000_0000_0000;
     }
-    f64::to_bits(x)
+    x.to_bits()
 }
 
-// One of two numbers. On numbers alone the compiler makes this a step and no branch.
-pub fn pick(t: bool, a: u64, b: u64) -> u64
+// One of two. On numbers alone the compiler makes this a step and no branch.
+pub fn pick<T: Copy>(t: bool, a: T, b: T) -> T
     ensures { result ≡ cond t a b }
 {
     if t { a } else { b }
@@ -140,10 +144,11 @@ pub fn key_float(k: u64) -> f64
 }
 
 // The last place whose float is at most x: that of +0 for either zero, and 0, where no number stands, for a NaN.
+#[tactic(auto, unfolding(crate::specs::Places::limit_key))]
 pub fn limit_key(x: f64) -> u64
     ensures { result ≡ limit_key x }
 {
-    if x != x {
+    if x.is_nan() {
         return 0;
     }
     if x == 0.0 {

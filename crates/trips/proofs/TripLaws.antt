@@ -1,20 +1,19 @@
 -- The least round trip of the window: the first sample's, and one pass over all.
 -- Assumes nothing.
+use Rattle.std.specs.Prelude.{None, Some}
 use Prim.Native.Nat.{ℕ, suc, ◌+◌, ◌*◌, ◌<◌, ◌≤◌, min}
 use mathlib.Core.Path.{◌≡◌, refl, ap, sym, ◌∙◌, subst}
 use mathlib.Core.Bool.{Bool, true, false, cond}
 use mathlib.Core.List.{List, [], ◌∷◌, map, foldl}
 use native.Mathlib.Omega.{arith}
 use native.Mathlib.Numerals.{add-one}
-use lib.ListN.{length, get_or, drop, drop_of_length-le}
+use lib.ListN.{length, get_or, drop}
 use lib.Seq.{drop-cons}
-use Rattle.base.specs.Seq.{position, keep}
+use Rattle.std.specs.List.{filter}
+use Rattle.base.specs.Seq.{position}
 use Rattle.base.specs.Passes.{lower_of}
-use Rattle.base.specs.declared.types.MaybeTime.{MaybeTime}
-use Rattle.base.specs.declared.types.MaybeTime.TheVariants.{None, Some}
 use Rattle.base.proofs.Cases.{on-flag}
 use Rattle.base.proofs.LeastLaws.{least-pass}
-use Rattle.base.proofs.ScanLaws.{Folding, folding-take, folding-skip}
 use Rattle.rtt.specs.Samples.{no_sample, is_sample, round_trips, min_rtt}
 use Rattle.rtt.specs.declared.types.Sample.{Sample}
 use Rattle.trips.specs.Trips.{lower_at}
@@ -28,7 +27,7 @@ pub record Lowering (l : List Sample) (z least i : ℕ) : Type 0 where
 
 -- the round trips of a list by whether its first place is a sample
 abbrev trips_if : Bool → Sample → List Sample → List ℕ
-trips_if b x l = map (λ s. s.rtt) (cond b (x ∷ keep is_sample l) (keep is_sample l))
+trips_if b x l = map (λ s. s.rtt) (cond b (x ∷ filter is_sample l) (filter is_sample l))
 
 -- one turn
 trips-on : (b : Bool) (least : ℕ) (x : Sample) (l : List Sample) → x.used ≡ b
@@ -61,35 +60,18 @@ module _ {l : List Sample} {z least i : ℕ} where
             ∙ ap (λ (x : ℕ). foldl min x (round_trips (drop (suc i) l))) (sym m);
       })
 
-  pub lowering-end : Lowering l z least i → 32 ≤ i → least ≡ z
-  lowering-end w h =
-      let k : length l ≤ i = omega (arith, w.long) in
-      sym (w.rest ∙ ap (λ (m : List Sample). foldl min least (round_trips m)) (drop_of_length-le l k))
-
--- the lower of a round trip and a place's, by whether that is a sample
-module _ {x : Sample} {s : Sample} (least : ℕ) (e : s ≡ x) where
-  pub lower-took : {v : ℕ} → s.used ≡ true → v ≡ min least s.rtt → v ≡ cond x.used (min least x.rtt) least
-  lower-took q m =
-      let u : x.used ≡ true = ap (λ (y : Sample). y.used) (sym e) ∙ q in
-      rw u (m ∙ ap (λ (y : Sample). min least y.rtt) e)
-
-  pub lower-left : s.used ≡ false → least ≡ cond x.used (min least x.rtt) least
-  lower-left q =
-      let u : x.used ≡ false = ap (λ (y : Sample). y.used) (sym e) ∙ q in
-      rw u
-
 -- ---- the whole
 
 module _ {A : Type 0} (p : A → Bool) where
   -- what is kept starts with the first that passes
   keep-first : (d : A) (l : List A) → position p l < length l
-      → keep p l ≡ get_or l (position p l) d ∷ keep p (drop (suc (position p l)) l)
+      → filter p l ≡ get_or l (position p l) d ∷ filter p (drop (suc (position p l)) l)
   keep-first d [] h = absurd (omega arith)
   keep-first d (x ∷ l) h =
       on-flag (p x) (λ q. rw q) (λ q. rw q (keep-first d l (omega (arith, rw q at h))))
 
   -- where none passes nothing is kept
-  keep-none : (l : List A) → length l ≤ position p l → keep p l ≡ []
+  keep-none : (l : List A) → length l ≤ position p l → filter p l ≡ []
   keep-none [] h = refl
   keep-none (x ∷ l) h =
       on-flag (p x) (λ q. absurd (omega (arith, rw q at h))) (λ q. rw q (keep-none l (omega (arith, rw q at h))))
@@ -133,10 +115,10 @@ module _ (l : List Sample) {k : ℕ} (e : k ≡ position is_sample l) (n : lengt
   unfolding min_rtt
   min-some {x} {s} h f m =
       let j : position is_sample l < length l = omega (arith, e, n) in
-      let w : keep is_sample l ≡ s ∷ keep is_sample (drop (k + 1) l) =
+      let w : filter is_sample l ≡ s ∷ filter is_sample (drop (k + 1) l) =
       keep-first is_sample no_sample l j
-      ∙ ap (λ (i : ℕ). get_or l i no_sample ∷ keep is_sample (drop (suc i) l)) (sym e)
-      ∙ (λ i. sym f i ∷ keep is_sample (drop (sym (add-one k) i) l))
+      ∙ ap (λ (i : ℕ). get_or l i no_sample ∷ filter is_sample (drop (suc i) l)) (sym e)
+      ∙ (λ i. sym f i ∷ filter is_sample (drop (sym (add-one k) i) l))
       in
       let g : min s.rtt s.rtt ≡ s.rtt = omega arith in
       ap (λ (y : ℕ). Some y)
@@ -152,16 +134,3 @@ module _ (l : List Sample) {k : ℕ} (e : k ≡ position is_sample l) (n : lengt
       let j : length l ≤ position is_sample l = omega (arith, e, n) in
       ap (λ (y : List Sample). foldl lower_of None (map (λ (t : Sample). t.rtt) y)) (sym (keep-none is_sample l j))
       ∙ least-pass (round_trips l)
-
--- ---- the least of the horizon
-
-module _ {A : Type 0} {p : A → Bool} {g : A → ℕ} {l : List A} {n i : ℕ} {b : MaybeTime} (d : A) {s : A} where
-  -- one that counts for the least
-  pub least-take : {v : MaybeTime} → Folding p g lower_of None l n b i → i < n → s ≡ get_or l i d → p s ≡ true
-      → v ≡ lower_of b (g s) → Folding p g lower_of None l n v (i + 1)
-  least-take w h e q m = folding-take d w h (ap p (sym e) ∙ q) (m ∙ ap (λ (x : A). lower_of b (g x)) e)
-
-  -- and a gap
-  pub least_skip : Folding p g lower_of None l n b i → i < n → s ≡ get_or l i d → p s ≡ false
-      → Folding p g lower_of None l n b (i + 1)
-  least_skip w h e q = folding-skip d w h (ap p (sym e) ∙ q)

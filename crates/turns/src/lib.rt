@@ -5,6 +5,7 @@ ghost use Rattle.std.specs.Prelude.{◌≡◌};
 ghost use Rattle.live.specs.Search.{seek_answer_of};
 ghost use Rattle.rules.specs.Event.{bit};
 ghost use Rattle.rules.specs.Rules.{answered, on_slot};
+ghost use Rattle.refusals.specs.Refusals.{at_kind};
 ghost use Rattle.turns.specs.Work.{work_by};
 ghost use Rattle.cells.specs.Cells.{settings_in};
 ghost use Rattle.rows.specs.View.{path_in, slot_in};
@@ -22,12 +23,12 @@ use time_events::*;
 pub mod slots;
 
 // Answer: the search probe first, then the ring.
-fn answer(p: &mut [[u64; 4]; ROWS], e: Event, gap: u64) -> Reply
+fn answer(p: &mut [[u64; 4]; ROWS], e: Event, gap: u64) -> Result<Reply, Refusal>
     ensures { Turns p.old p.new result
         (answered (seek_answer_of (path_in p.old) e.id gap) (slot_in p.old) e) }
 {
     if settle(p, e, gap) {
-        return Reply::Search;
+        return Ok(Reply::Search);
     }
     answer_ring(p, e.id)
 }
@@ -39,45 +40,39 @@ fn first_flag(e: Event) -> bool
     e.flags % 2 == 1
 }
 
-// The work of the event's kind, but for an open; of the settings (cap, gap, window, horizon) a kind reads its own.
-fn work(t: &[u64; 4], p: &mut [[u64; 4]; ROWS], e: Event) -> Reply
+// The work of a kind, but for an open; of the settings (cap, gap, window, horizon) a kind reads its own.
+#[tactic(auto, unfolding(crate::specs::Work::work_by, cells::specs::Cells::settings_in, probe_events::specs::Poll::whole_poll))]
+fn work(t: &[u64; 4], p: &mut [[u64; 4]; ROWS], e: Event, kind: Kind) -> Result<Reply, Refusal>
     ensures { Turns p.old p.new result
-        (work_by (settings_in t.now) (slot_in p.old) e) }
+        (work_by (settings_in t.now) (slot_in p.old) (at_kind kind e)) }
 {
-    let k = e.kind;
-    match k {
-        2 => probe(p, e),
-        3 => answer(p, e, t[1]),
-        4 => poll(p, e.now, first_flag(e), t[0]),
-        5 => sample(p, e, t[2], t[3]),
-        6 => fold(p, first_flag(e)),
-        7 => prove(p, e),
-        8 => search(p, e),
-        9 => judge(p, e, t[1]),
-        10 => received(p, e),
-        11 => fresh(p),
-        12 => thaw(p),
-        13 => sweep(p),
-        14 => close(p),
-        _ => Reply::Refused(Refusal::Kind),
+    match kind {
+        Kind::Probe => probe(p, e),
+        Kind::Answer => answer(p, e, t[1]),
+        Kind::Poll => poll(p, e.now, first_flag(e), t[0]),
+        Kind::Sample => sample(p, e, t[2], t[3]),
+        Kind::Fold => fold(p, first_flag(e)),
+        Kind::Prove => prove(p, e),
+        Kind::Search => search(p, e),
+        Kind::Judge => judge(p, e, t[1]),
+        Kind::Data => received(p, e),
+        Kind::Fresh => fresh(p),
+        Kind::Thaw => thaw(p),
+        Kind::Sweep => sweep(p),
+        Kind::Close => close(p),
+        Kind::Open | Kind::Choose => Err(Refusal::Kind),
     }
 }
 
 // The first refusal, with every word as it came; else the work.
-pub fn on_rows(t: &[u64; 4], p: &mut [[u64; 4]; ROWS], e: Event) -> Reply
+pub fn on_rows(t: &[u64; 4], p: &mut [[u64; 4]; ROWS], e: Event) -> Result<Reply, Refusal>
     ensures { Turns p.old p.new result
         (on_slot (settings_in t.now) (slot_in p.old) e) }
 {
     let held = rows::whole::used(p);
-    let s = labels::marks::settings_in(*t);
-    let v = first_refusal(s, held, e);
-    match v {
-        Verdict::Refused(why) => Reply::Refused(why),
-        Verdict::Pass => {
-            if e.kind == 1 {
-                return open(p, e);
-            }
-            work(t, p, e)
-        }
+    first_refusal(labels::marks::settings_in(*t), held, e)?;
+    match Kind::try_from(e.kind)? {
+        Kind::Open => open(p, e),
+        kind => work(t, p, e, kind),
     }
 }

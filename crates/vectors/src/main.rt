@@ -23,13 +23,11 @@ fn scripts(many: u64) -> u64
 {
     let mut record = [0u8; 7944];
     let mut equal: u64 = 0;
-    let mut turns = many;
-    while turns > 0 {
+    for i in 0..many {
         if io::read_full(STDIN_FILENO, &mut record) < 7944 {
             break;
         }
         equal = replay::counted(equal, replay::script_agrees(&record));
-        turns -= 1;
     }
     equal
 }
@@ -40,13 +38,11 @@ fn fields(many: u64) -> u64
 {
     let mut record = [0u8; 816];
     let mut equal: u64 = 0;
-    let mut turns = many;
-    while turns > 0 {
+    for i in 0..many {
         if io::read_full(STDIN_FILENO, &mut record) < 816 {
             break;
         }
         equal = replay::counted(equal, replay::field_agrees(&record));
-        turns -= 1;
     }
     equal
 }
@@ -57,13 +53,11 @@ fn pairs(many: u64) -> u64
 {
     let mut record = [0u8; 232];
     let mut equal: u64 = 0;
-    let mut turns = many;
-    while turns > 0 {
+    for i in 0..many {
         if io::read_full(STDIN_FILENO, &mut record) < 232 {
             break;
         }
         equal = replay::counted(equal, replay::pair_agrees(&record));
-        turns -= 1;
     }
     equal
 }
@@ -76,8 +70,7 @@ fn cases(listed: bool, many: u64) -> u64
     let mut room = [0u8; 16384];
     let bytes: &mut [u8] = &mut room;
     let mut equal: u64 = 0;
-    let mut turns = many;
-    while turns > 0 {
+    for i in 0..many {
         if io::read_full(STDIN_FILENO, &mut size) < 4 {
             break;
         }
@@ -91,7 +84,6 @@ fn cases(listed: bool, many: u64) -> u64
         let whole = caselist::case_end(&bytes[0..n], 0) == n;
         let agrees = caselist::case_agrees(listed, &bytes[0..n], 0);
         equal = replay::counted(equal, whole & agrees);
-        turns -= 1;
     }
     equal
 }
@@ -113,13 +105,11 @@ fn main() {
         cases(false, many[3]),
         cases(true, many[4]),
     ];
-    let mut i: usize = 0;
-    while i < 5 {
+    for i in 0..5 {
         io::print_decimal(STDOUT_FILENO, equal[i]);
         io::write_all(STDOUT_FILENO, b" of ");
         io::print_decimal(STDOUT_FILENO, many[i]);
         io::write_all(STDOUT_FILENO, b"\n");
-        i += 1;
     }
     let left = io::read_full(STDIN_FILENO, &mut head);
     io::print_decimal(STDOUT_FILENO, left as u64);

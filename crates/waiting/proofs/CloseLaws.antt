@@ -8,7 +8,7 @@ use native.Mathlib.Omega.{arith}
 use native.Mathlib.Numerals.{add-one}
 use lib.ListN.{length, get_or, set, take, drop, length-set, take-append-drop}
 use lib.Seq.{take-suc, take_all, take-suc-set, length-take-le, drop-set-lt, drop-drop, get_or-drop}
-use Rattle.base.specs.Seq.{keep}
+use Rattle.std.specs.List.{filter}
 use Rattle.base.proofs.SeqLaws.{keep_append}
 
 -- of the first r elements of m, those that pass p stand at the front of q, w of them; behind them q is l still
@@ -18,7 +18,7 @@ pub record Closing {A : Type 0} (p : A → Bool) (m l : List A) (n : ℕ) (q : L
   pub long : length q ≡ n
   pub upto : r ≤ n
   pub some : w ≤ r
-  pub done : take w q ≡ keep p (take r m)
+  pub done : take w q ≡ filter p (take r m)
   pub rest : drop w q ≡ drop w l
 
 module _ {A : Type 0} {p : A → Bool} {m l : List A} {n : ℕ} where
@@ -37,13 +37,13 @@ module _ {A : Type 0} {p : A → Bool} {m l : List A} {n : ℕ} where
 
     module _ (h : r < n) where
       -- what passes up to here and of the one here
-      kept : keep p (take (suc r) m) ≡ keep p (take r m) ++ keep p (get_or m r d ∷ [])
-      kept = ap (keep p) (take-suc m r d (omega (arith, s.want))) ∙ keep_append p (take r m) (get_or m r d ∷ [])
+      kept : filter p (take (suc r) m) ≡ filter p (take r m) ++ filter p (get_or m r d ∷ [])
+      kept = ap (filter p) (take-suc m r d (omega (arith, s.want))) ∙ keep_append p (take r m) (get_or m r d ∷ [])
 
       -- one that does not pass stays where it is
       pub closing-skip : p (get_or m r d) ≡ false → Closing p m l n q w (r + 1)
       closing-skip e =
-          let k : keep p (take (suc r) m) ≡ keep p (take r m) = rw (kept, e) (append-nil (keep p (take r m))) in
+          let k : filter p (take (suc r) m) ≡ filter p (take r m) = rw (kept, e) (append-nil (filter p (take r m))) in
           rw add-one
           (record {
             want = s.want;
@@ -58,7 +58,7 @@ module _ {A : Type 0} {p : A → Bool} {m l : List A} {n : ℕ} where
       -- one that passes moves to the front
       pub closing-move : {x : A} → p (get_or m r d) ≡ true → get_or m r d ≡ x → Closing p m l n (set q w x) (w + 1) (r + 1)
       closing-move {x} e f =
-          let k : keep p (take (suc r) m) ≡ keep p (take r m) ++ (x ∷ []) = rw (kept, e, f) refl in
+          let k : filter p (take (suc r) m) ≡ filter p (take r m) ++ (x ∷ []) = rw (kept, e, f) refl in
           let t : take (suc w) (set q w x) ≡ take w q ++ (x ∷ []) = take-suc-set q w x (omega (arith, s.long, s.some)) in
           let z : drop (w + 1) q ≡ drop (w + 1) l =
           sym (drop-drop 1 w q) ∙ ap (λ (y : List A). drop 1 y) s.rest ∙ drop-drop 1 w l in
@@ -74,9 +74,9 @@ module _ {A : Type 0} {p : A → Bool} {m l : List A} {n : ℕ} where
 
   -- all that passes stands at the front
   pub closing_end : {q : List A} {w r : ℕ} → Closing p m l n q w r → n ≤ r
-      → (w ≡ length (keep p m)) × (q ≡ keep p m ++ drop (length (keep p m)) l)
+      → (w ≡ length (filter p m)) × (q ≡ filter p m ++ drop (length (filter p m)) l)
   closing_end {q} {w} {r} s h =
-      let f : take w q ≡ keep p m = s.done ∙ ap (keep p) (take_all r m (omega (arith, s.want))) in
-      let g : w ≡ length (keep p m) =
+      let f : take w q ≡ filter p m = s.done ∙ ap (filter p) (take_all r m (omega (arith, s.want))) in
+      let g : w ≡ length (filter p m) =
       sym (length-take-le w q (omega (arith, s.some, s.upto, s.long))) ∙ ap (λ (y : List A). length y) f in
-      (g, sym (take-append-drop w q) ∙ (λ i. f i ++ s.rest i) ∙ ap (λ (i : ℕ). keep p m ++ drop i l) g)
+      (g, sym (take-append-drop w q) ∙ (λ i. f i ++ s.rest i) ∙ ap (λ (i : ℕ). filter p m ++ drop i l) g)

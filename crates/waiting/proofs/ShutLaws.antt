@@ -1,5 +1,6 @@
 -- The ring of a slot's rows closed up in place; all else stays.
 -- Assumes nothing.
+use Rattle.std.specs.Prelude.{Option, None, Some}
 use Prim.Native.Nat.{ℕ, ◌+◌, ◌-◌, ◌<◌, ◌≤◌, min, max}
 use mathlib.Core.Path.{◌≡◌, refl, ap, sym, ◌∙◌}
 use mathlib.Core.List.{List, ◌++◌}
@@ -9,8 +10,6 @@ use borrow.Author.Tests.{eqb-true, eqb-false}
 use lib.Dec.{eqb}
 use lib.ListN.{length, get_or, set, take, drop, replicate, length-set}
 use lib.Seq.{length-take-le, take_all, take-append_seam, get_or-set_same, get_or-set_other}
-use Rattle.base.specs.declared.types.MaybeId.{MaybeId}
-use Rattle.base.specs.declared.types.MaybeId.TheVariants as id
 use Rattle.base.proofs.Cases.{on-flag, on-order, cond_same, never}
 use Rattle.ring.specs.Ring.{is_used, no_sent, taken_out, all_count, drop_since}
 use Rattle.ring.specs.declared.types.Ids.{Ids}
@@ -161,28 +160,28 @@ taken_out_lem {a} {b} {c} slot {w} f g =
     (ap (λ (y : List Sent). with_ring (path_in a) y) m)
 
 -- whether there is a since to be dropped, where there is one
-pub dropped-some : (l : List Sent) {m : MaybeId} {x : ℕ} {t : Bool} → m ≡ id.Some x → t ≡ all_count (id.Some x) l → t ≡ is_dropped m l
-dropped-some l {m} {x} {t} e f = f ∙ sym (ap (λ (y : MaybeId). is_dropped y l) e)
+pub dropped-some : (l : List Sent) {m : Option ℕ} {x : ℕ} {t : Bool} → m ≡ Some x → t ≡ all_count (Some x) l → t ≡ is_dropped m l
+dropped-some l {m} {x} {t} e f = f ∙ sym (ap (λ (y : Option ℕ). is_dropped y l) e)
 
 -- the identifiers with `since` dropped where there is one to be dropped, else as they are
 module _ (m : Ids) (l : List Sent) where
   -- where one is to be dropped every waiting probe counts
-  by-since : (x : MaybeId) → m.since ≡ x → {t : Bool} → t ≡ is_dropped x l → (t ≡ true → all_count m.since l ≡ true)
-  by-since id.None e {t} f g = let y : true ≡ false = sym g ∙ f in cc
-  by-since (id.Some x) e {t} f g = rw e (sym f ∙ g)
+  by-since : (x : Option ℕ) → m.since ≡ x → {t : Bool} → t ≡ is_dropped x l → (t ≡ true → all_count m.since l ≡ true)
+  by-since None e {t} f g = let y : true ≡ false = sym g ∙ f in cc
+  by-since (Some x) e {t} f g = rw e (sym f ∙ g)
 
   -- `since` is dropped
   drop-some : {t : Bool} → t ≡ is_dropped m.since l → t ≡ true
-      → record { next_id = m.next_id; answered = m.answered; epoch = m.epoch; since = id.None } ≡ drop_since m l
+      → record { next_id = m.next_id; answered = m.answered; epoch = m.epoch; since = None } ≡ drop_since m l
   drop-some f g = rw (by-since m.since refl f g)
 
   -- where none is to be dropped the rule leaves the identifiers
-  kept : (x : MaybeId) → m.since ≡ x → {t : Bool} → t ≡ is_dropped x l → t ≡ false → m ≡ drop_since m l
-  kept id.None e {t} f g =
-      let z : m ≡ record { next_id = m.next_id; answered = m.answered; epoch = m.epoch; since = id.None } =
+  kept : (x : Option ℕ) → m.since ≡ x → {t : Bool} → t ≡ is_dropped x l → t ≡ false → m ≡ drop_since m l
+  kept None e {t} f g =
+      let z : m ≡ record { next_id = m.next_id; answered = m.answered; epoch = m.epoch; since = None } =
       λ o. record { next_id = m.next_id; answered = m.answered; epoch = m.epoch; since = e o } in
       sym (cond_same (all_count m.since l) m) ∙ (λ o. cond (all_count m.since l) (z o) m)
-  kept (id.Some x) e {t} f g =
+  kept (Some x) e {t} f g =
       let y : all_count m.since l ≡ false = rw e (sym f ∙ g) in
       rw y
 
@@ -196,7 +195,7 @@ module _ (a : List (List ℕ)) {m : Ids} {t : Bool} (o : m ≡ (path_in a).ids) 
   there = f ∙ ap (λ (z : Ids). is_dropped z.since (path_in a).ring) o
 
   -- none is stored for it
-  pub since-dropped : {b : List (List ℕ)} → t ≡ true → Says a b (with_ids (path_in a) (with_id (path_in a).ids 3 id.None))
+  pub since-dropped : {b : List (List ℕ)} → t ≡ true → Says a b (with_ids (path_in a) (with_id (path_in a).ids 3 None))
       → Says a b (with_ids (path_in a) (drop_since (path_in a).ids (path_in a).ring))
   since-dropped g s = says-as s (ap (λ (z : Ids). with_ids (path_in a) z) (drop-some (path_in a).ids (path_in a).ring there g))
 

@@ -1,14 +1,12 @@
 -- The ring on its way to being closed up, and whether `since` is there to be dropped.
-use Rattle.std.specs.Prelude.{ℕ, ◌-◌, Bool, false, List, ◌++◌, length, set, take, drop, replicate}
-use Rattle.base.specs.declared.types.MaybeId.{MaybeId}
-use Rattle.base.specs.declared.types.MaybeId.TheVariants as id
+use Rattle.std.specs.Prelude.{ℕ, ◌-◌, Bool, false, List, ◌++◌, length, set, take, drop, replicate, Option, None, Some}
 use Rattle.ring.specs.Ring.{max_waiting, no_sent, waiting, all_count}
 use Rattle.ring.specs.declared.types.Sent.{Sent}
 
 -- there is a since, and every waiting probe counts
-abbrev pub is_dropped : MaybeId → List Sent → Bool
-is_dropped id.None l = false
-is_dropped (id.Some s) l = all_count (id.Some s) l
+abbrev pub is_dropped : Option ℕ → List Sent → Bool
+is_dropped None l = false
+is_dropped (Some s) l = all_count (Some s) l
 
 -- the waiting probes but the one at a place
 abbrev pub others : ℕ → List Sent → List Sent

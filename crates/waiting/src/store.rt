@@ -8,7 +8,6 @@ ghost use Rattle.rows.specs.Says.{Says};
 ghost use Rattle.waiting.specs.Steps.{others, pressed, freed_from};
 
 use crate::search::is_dropped;
-use base::types::MaybeId;
 use ring::types::*;
 use rows::places::*;
 use rows::probes::*;
@@ -19,15 +18,10 @@ fn press(p: &mut [[u64; 4]; ROWS], slot: usize) -> usize
         × Says p.old p.new
         (with_ring (path_in p.old) (pressed slot (path_in p.old).ring)) }
 {
-    rows(p);
     let mut w: usize = 0;
-    let mut r: usize = 0;
-    while r < RING {
-        let i = r;
-        let s = sent(p, i);
-        r += 1;
-        if s.used & (i != slot) {
-            move_sent(p, i, w);
+    for r in 0..RING {
+        if sent(p, r).used & (r != slot) {
+            move_sent(p, r, w);
             w += 1;
         }
     }
@@ -39,14 +33,10 @@ pub fn free_from(p: &mut [[u64; 4]; ROWS], from: usize)
     ensures { Says p.old p.new
         (with_ring (path_in p.old) (freed_from from (path_in p.old).ring)) }
 {
-    rows(p);
     let free = ring::ring::none();
-    let mut k: usize = 0;
-    while k < RING {
-        let i = k;
-        k += 1;
-        if from <= i {
-            set_sent(p, i, free);
+    for k in 0..RING {
+        if from <= k {
+            set_sent(p, k, free);
         }
     }
 }
@@ -65,7 +55,6 @@ pub fn remember(p: &mut [[u64; 4]; ROWS], s: Sent)
     ensures { Says p.old p.new
         (with_late (path_in p.old) (remembered (path_in p.old).late s)) }
 {
-    rows(p);
     move_late(p, 1, 0);
     move_late(p, 2, 1);
     move_late(p, 3, 2);
@@ -78,10 +67,8 @@ pub fn drop_since(p: &mut [[u64; 4]; ROWS])
         (drop_since (path_in p.old).ids (path_in p.old).ring)) }
 {
     let m = ids(p);
-    let since = m.since;
-    if is_dropped(p, since) {
-        let none = MaybeId::None;
-        set_id(p, 3, none);
+    if is_dropped(p, m.since) {
+        set_id(p, 3, None);
     }
 }
 
@@ -89,41 +76,31 @@ pub fn drop_since(p: &mut [[u64; 4]; ROWS])
 pub fn ring_of(p: &[[u64; 4]; ROWS]) -> [Sent; RING]
     ensures { result ≡ (path_in p.now).ring }
 {
-    rows(p);
-    let a = sent(p, 0);
-    let b = sent(p, 1);
-    let c = sent(p, 2);
-    let d = sent(p, 3);
-    let e = sent(p, 4);
-    let f = sent(p, 5);
-    let g = sent(p, 6);
-    let h = sent(p, 7);
-    [a, b, c, d, e, f, g, h]
+    [
+        sent(p, 0),
+        sent(p, 1),
+        sent(p, 2),
+        sent(p, 3),
+        sent(p, 4),
+        sent(p, 5),
+        sent(p, 6),
+        sent(p, 7),
+    ]
 }
 
 // The late list.
 pub fn late_of(p: &[[u64; 4]; ROWS]) -> [Sent; LATE]
     ensures { result ≡ (path_in p.now).late }
 {
-    rows(p);
-    let a = late(p, 0);
-    let b = late(p, 1);
-    let c = late(p, 2);
-    let d = late(p, 3);
-    [a, b, c, d]
+    [late(p, 0), late(p, 1), late(p, 2), late(p, 3)]
 }
 
 // Stores the late list.
 pub fn set_lates(p: &mut [[u64; 4]; ROWS], l: [Sent; LATE])
     ensures { Says p.old p.new (with_late (path_in p.old) l) }
 {
-    rows(p);
-    let a = l[0];
-    let b = l[1];
-    let c = l[2];
-    let d = l[3];
-    set_late(p, 0, a);
-    set_late(p, 1, b);
-    set_late(p, 2, c);
-    set_late(p, 3, d);
+    set_late(p, 0, l[0]);
+    set_late(p, 1, l[1]);
+    set_late(p, 2, l[2]);
+    set_late(p, 3, l[3]);
 }

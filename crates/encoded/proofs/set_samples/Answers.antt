@@ -5,4 +5,4 @@ use Rattle.encoded.proofs.SaveLaws.{storing-start}
 use Rattle.encoded.proofs.set_samples.Goals as goal
 
 pub loop-i-init : goal.loop-i-init
-loop-i-init c = storing-start samples-part (search rules) (samples-length _ c.rows.ensures.1)
+loop-i-init c = storing-start samples-part (search rules) (samples-length _ (search rules))

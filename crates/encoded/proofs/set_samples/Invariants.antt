@@ -1,4 +1,3 @@
-use Prim.Native.Nat.{◌-◌}
 use Rattle.rows.specs.Parts.{with_samples}
 use Rattle.live.specs.declared.types.Liveness.{Liveness}
 use Rattle.encoded.proofs.SaveLaws.{Storing}
@@ -6,6 +5,3 @@ use Rattle.encoded.proofs.set_samples.Given as goal
 
 abbrev pub invariant-loop-i : goal.invariant-loop-i
 invariant-loop-i l = Storing (λ (v : Liveness). v.rtts.samples) with_samples l.l 32 l.initial.p l.p l.i
-
-abbrev pub decreases-loop-i : goal.decreases-loop-i
-decreases-loop-i l = 32 - l.i

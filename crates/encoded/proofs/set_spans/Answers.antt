@@ -5,4 +5,4 @@ use Rattle.encoded.proofs.SaveLaws.{storing-start}
 use Rattle.encoded.proofs.set_spans.Goals as goal
 
 pub loop-i-init : goal.loop-i-init
-loop-i-init c = storing-start spans-part (search rules) (spans-length _ c.rows.ensures.1)
+loop-i-init c = storing-start spans-part (search rules) (spans-length _ (search rules))

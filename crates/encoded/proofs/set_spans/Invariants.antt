@@ -1,4 +1,3 @@
-use Prim.Native.Nat.{◌-◌}
 use Rattle.rows.specs.Parts.{with_spans}
 use Rattle.live.specs.declared.types.Liveness.{Liveness}
 use Rattle.encoded.proofs.SaveLaws.{Storing}
@@ -6,6 +5,3 @@ use Rattle.encoded.proofs.set_spans.Given as goal
 
 abbrev pub invariant-loop-i : goal.invariant-loop-i
 invariant-loop-i l = Storing (λ (v : Liveness). v.rtts.spans) with_spans l.l 8 l.initial.p l.p l.i
-
-abbrev pub decreases-loop-i : goal.decreases-loop-i
-decreases-loop-i l = 8 - l.i

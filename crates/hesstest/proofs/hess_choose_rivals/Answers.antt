@@ -7,4 +7,4 @@ use Rattle.hesstest.proofs.hess_choose_rivals.Goals as goal
 
 pub returns : goal.returns
 unfolding words_reply
-returns c = c.of_chosen.ensures ∙ ap chosen_reply (c.choose.ensures ∙ ap (λ (l : List Rival). choose_of l c.args.margin) c.field_in-rivals.ensures)
+returns c = c.of_chosen.ensures ∙ ap chosen_reply (c.choose.ensures ∙ ap (λ (l : List Rival). choose_of l c.args.margin) c.field_in.ensures)

@@ -1,19 +1,28 @@
-use mathlib.Core.Path.{sym, ◌∙◌}
-use Rattle.lapses.proofs.LapseLaws.{scanning-defers, scanning-lapses, scanning-none, scanning-less}
+use Rattle.std.proofs.Common.{◌<◌, arith, sym, ◌∙◌}
+use Rattle.lapses.proofs.LapseLaws.{scanning-place, scanning-defers, scanning-lapses, scanning-none, scanning-less}
 use Rattle.lapses.proofs.scan.Goals as goal
 
-pub loop-data_at-smaller : goal.loop-data_at-smaller
-loop-data_at-smaller c =
-    scanning-less _ c.loop-data_at.invariant c.first_passed-i.ensures c.if-i-ge-RING.false _
-    (sym c.defer-wait.ensures ∙ c.in-Some.is)
+pub bounds-left-i : goal.bounds-left-i
+bounds-left-i c = scanning-place c.loop-i.invariant c.in-Some.ensures
 
-pub loop-data_at-preserved : goal.loop-data_at-preserved
-loop-data_at-preserved c =
-    scanning-defers _ c.loop-data_at.invariant c.first_passed-i.ensures c.if-i-ge-RING.false _
-    (sym c.defer-wait.ensures ∙ c.in-Some.is)
+pub offset_bounds-left-i : goal.offset_bounds-left-i
+offset_bounds-left-i c = let h : c.in-Some.i < 8 = scanning-place c.loop-i.invariant c.in-Some.ensures in omega arith
 
-pub returns-then-i-ge-RING : goal.returns-then-i-ge-RING
-returns-then-i-ge-RING c = scanning-none c.loop-data_at.invariant c.first_passed-i.ensures c.if-i-ge-RING.true
+pub bounds-left-i-in-loop-i : goal.bounds-left-i-in-loop-i
+bounds-left-i-in-loop-i c = scanning-place c.loop-i.invariant c.in-Some.ensures
 
-pub returns-in-None : goal.returns-in-None
-returns-in-None c = scanning-lapses _ c.loop-data_at.invariant c.first_passed-i.ensures c.if-i-ge-RING.false (sym c.defer-wait.ensures ∙ c.in-None.is)
+pub offset_bounds-left-i-in-loop-i : goal.offset_bounds-left-i-in-loop-i
+offset_bounds-left-i-in-loop-i c = let h : c.in-Some.i < 8 = scanning-place c.loop-i.invariant c.in-Some.ensures in omega arith
+
+pub loop-i-smaller : goal.loop-i-smaller
+loop-i-smaller c = scanning-less c.loop-i.invariant c.in-Some.ensures _ (sym c.defer.ensures ∙ c.in-Some-defer.is)
+
+pub loop-i-preserved : goal.loop-i-preserved
+loop-i-preserved c = scanning-defers c.loop-i.invariant c.in-Some.ensures _ (sym c.defer.ensures ∙ c.in-Some-defer.is)
+
+pub returns-in_default : goal.returns-in_default
+returns-in_default c = scanning-none c.loop-i.invariant (sym c.in_default.is ∙ c.first_passed.ensures)
+
+pub returns-in_default-defer : goal.returns-in_default-defer
+returns-in_default-defer c =
+    scanning-lapses c.loop-i.invariant c.in-Some.ensures _ (sym c.defer.ensures ∙ c.in_default-defer.is)

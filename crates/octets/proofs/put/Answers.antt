@@ -1,13 +1,20 @@
 use mathlib.Core.Path.{sym}
 use borrow.Author.Tests.{le-leb, lt-leb}
-use Rattle.octets.proofs.Write.{more, all, none}
+use lib.Seq.{length-take-le}
+use native.Mathlib.Omega.{arith}
+use Rattle.octets.proofs.Write.{start, more, all, none}
 use Rattle.octets.proofs.put.Goals as goal
 
 pub returns-then-out-width : goal.returns-then-out-width
 returns-then-out-width c = (sym (lt-leb _ _ c.if-out-width.true), none _ _ _ c.if-out-width.true)
 
-pub loop-i-preserved : goal.loop-i-preserved
-loop-i-preserved c = let v = c.loop-i.invariant in (v.0, more _ _ _ _ _ _ c.loop-i-test.true v.0 v.1)
+pub loop-b-init : goal.loop-b-init
+loop-b-init c = start _ _ _ (length-take-le _ _ c.if-out-width.false)
+
+pub loop-b-preserved : goal.loop-b-preserved
+loop-b-preserved c = more (omega (arith, c.loop-b-test.true, length-take-le _ _ c.if-out-width.false)) c.loop-b.invariant
 
 pub returns : goal.returns
-returns c = let v = c.loop-i.invariant in (sym (le-leb _ _ v.0), all _ _ _ _ _ _ c.loop-i-test.false v.0 v.1)
+returns c =
+    let h = c.if-out-width.false in
+    (sym (le-leb _ _ h), all _ (omega (arith, c.loop-b-test.false, length-take-le _ _ h)) h c.loop-b.invariant)

@@ -14,15 +14,15 @@ returns-then-out-words c =
     let h : length o < length (words_of w) = omega (arith, flat-length (le 8) 8 (le-length 8) w) in
     (sym (lt-leb (length (words_of w)) (length o) h), sym (over-not (words_of w) o h))
 
-pub loop-i-init : goal.loop-i-init
-loop-i-init c = filling-start (le-length 8) refl (omega arith) (nothing _)
+pub loop-w-init : goal.loop-w-init
+loop-w-init c = filling-start (le-length 8) refl (omega arith) (nothing _)
 
-pub loop-i-preserved : goal.loop-i-preserved
-loop-i-preserved c = filling-next c.loop-i.invariant c.loop-i-test.true _ c.put.ensures.1
+pub loop-w-preserved : goal.loop-w-preserved
+loop-w-preserved c = filling-next c.loop-w.invariant c.loop-w-test.true _ c.put.ensures.1
 
 pub returns : goal.returns
 returns c =
     let w = c.args.words.now in
     let o = c.args.out.now in
     let h : length (words_of w) ≤ length o = omega (arith, flat-length (le 8) 8 (le-length 8) w) in
-    (sym (le-leb (length (words_of w)) (length o) h), filled-over (filling-end c.loop-i.invariant c.loop-i-test.false))
+    (sym (le-leb (length (words_of w)) (length o) h), filled-over (filling-end c.loop-w.invariant c.loop-w-test.false))

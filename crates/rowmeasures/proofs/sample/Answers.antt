@@ -1,3 +1,4 @@
+use borrow.Author.Rules.{rules}
 use mathlib.Core.Path.{ap, ◌∙◌}
 use mathlib.Core.Bool.{Bool}
 use Rattle.cells.specs.Cells.{sample_in}
@@ -9,9 +10,9 @@ use Rattle.rows.proofs.ViewLaws.{sample-past, sample-at}
 use Rattle.rowmeasures.proofs.sample.Goals as goal
 
 pub returns-then-i-ge-SAMPLES : goal.returns-then-i-ge-SAMPLES
-returns-then-i-ge-SAMPLES c = sample-past _ c.rows.ensures.1 c.if-i-ge-SAMPLES.true c.none.ensures
+returns-then-i-ge-SAMPLES c = sample-past _ (search rules) c.if-i-ge-SAMPLES.true c.none.ensures
 
 pub returns : goal.returns
 returns c = c.sample_in.ensures
-    ∙ ap (λ (b : Bool). sample_in (row c.args.p.now (samples_at + c.args.i / 2)) (is_last c.args.i) b) c.bit_in-used.ensures
-    ∙ sample-at _ c.rows.ensures.1 _ c.if-i-ge-SAMPLES.false
+    ∙ ap (λ (b : Bool). sample_in (row c.args.p.now (samples_at + c.args.i / 2)) (is_last c.args.i) b) c.bit_in.ensures
+    ∙ sample-at _ (search rules) _ c.if-i-ge-SAMPLES.false

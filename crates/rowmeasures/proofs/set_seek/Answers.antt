@@ -1,5 +1,6 @@
+use borrow.Author.Rules.{rules}
 use Rattle.rows.proofs.SaysLaws.{put-seek}
 use Rattle.rowmeasures.proofs.set_seek.Goals as goal
 
 pub returns : goal.returns
-returns c = put-seek c.args.p.now c.rows.ensures.1 c.time_tag-tag.ensures c.time_value-when.ensures c.search_word-sent.ensures c.wide_len-lost.ensures c.put_half-a.ensures c.put_half-v.ensures
+returns c = put-seek c.args.p.now (search rules) c.tag.ensures c.unwrap_or.ensures c.search_word.ensures (c.from.ensures, search rules) c.put_half.ensures c.put_half-2.ensures

@@ -8,4 +8,4 @@ pub returns-then-len-lt-MIN_LEN : goal.returns-then-len-lt-MIN_LEN
 returns-then-len-lt-MIN_LEN c = prove-under _ c.if-len-gt-MAX_LEN.false c.if-len-lt-MIN_LEN.true
 
 pub returns : goal.returns
-returns c = prove-made _ c.if-len-gt-MAX_LEN.false c.if-len-lt-MIN_LEN.false c.sizes-old.ensures c.prove-proving.ensures c.set_proven.ensures
+returns c = prove-made _ c.if-len-gt-MAX_LEN.false c.if-len-lt-MIN_LEN.false c.sizes.ensures c.prove-proving.ensures c.set_proven.ensures

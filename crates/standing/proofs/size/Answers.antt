@@ -12,5 +12,5 @@ pub returns : goal.returns
 unfolding standing_bytes
 returns c =
     let s = c.args.s in
-    let e : c.total.result ≡ length (standing_bytes s) = c.total.ensures ∙ ap (λ (l : List Field). length (flat bytes_in l)) c.parts-parts.ensures in
+    let e : c.total.result ≡ length (standing_bytes s) = c.total.ensures ∙ ap (λ (l : List Field). length (flat bytes_in l)) c.parts.ensures in
     (e, omega (arith, e, size-most s))

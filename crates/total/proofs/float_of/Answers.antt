@@ -1,18 +1,14 @@
 -- `total::float_of` meets its contract: a pattern is a NaN's where its lower 63 bits are above an infinity's
 -- (`nan_bits_above`).
-use mathlib.Core.Path.{◌≡◌, refl, sym, ◌∙◌, subst}
+use mathlib.Core.Path.{sym, ◌∙◌, subst}
 use mathlib.Core.Bool.{Bool, not}
 use borrow.Author.Tests.{lt-ltb, le-ltb}
 use lib.Dec.{T}
-use lib.Ieee.{nan, binary64, of_bits, div}
+use lib.Ieee.{binary64, of_bits}
 use lib.Ieee.Bits.{nan_bits_is, nan_bits_above}
+use Rattle.total.proofs.PlaceLaws.{quiet-nan}
 use Rattle.total.proofs.ValueLaws.{the_nan}
 use Rattle.total.proofs.float_of.Goals as goal
-
--- 0.0 / 0.0 is the NaN
-zero_by_zero : div binary64 (of_bits binary64 0) (of_bits binary64 0) ≡ nan
-unfolding div of_bits
-zero_by_zero = refl
 
 pub float_from_bits-result : goal.float_from_bits-result
 float_from_bits-result c =
@@ -22,8 +18,5 @@ float_from_bits-result c =
 pub returns-then-bits-gt9218868437227405312 : goal.returns-then-bits-gt9218868437227405312
 returns-then-bits-gt9218868437227405312 c =
     let n = c.args.bits in
-    zero_by_zero ∙ the_nan (of_bits binary64 n) (sym (nan_bits_is binary64 n) ∙ nan_bits_above binary64 n ∙ lt-ltb _ _
+    quiet-nan ∙ the_nan (of_bits binary64 n) (sym (nan_bits_is binary64 n) ∙ nan_bits_above binary64 n ∙ lt-ltb _ _
     c.if-bits-gt9218868437227405312.true)
-
-pub returns-else-bits-gt9218868437227405312 : goal.returns-else-bits-gt9218868437227405312
-returns-else-bits-gt9218868437227405312 c = refl

@@ -6,7 +6,7 @@ use Rattle.rtt.specs.Spans.{base_rtt}
 use Rattle.trips.proofs.base_rtt.Goals as goal
 
 pub loop-i-init : goal.loop-i-init
-loop-i-init c = folding-start (spans-length _ c.rows.ensures.1)
+loop-i-init c = folding-start (spans-length _ (search rules))
 
 pub returns : goal.returns
 unfolding base_rtt

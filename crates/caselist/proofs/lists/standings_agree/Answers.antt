@@ -1,3 +1,4 @@
+use borrow.Author.Rules.{rules}
 use mathlib.Core.Path.{◌∙◌}
 use native.Mathlib.Omega.{arith}
 use lib.ListN.{length-map}
@@ -6,7 +7,7 @@ use Rattle.caselist.proofs.StandLaws.{comparing-next, comparing-end, standings-l
 use Rattle.caselist.proofs.lists.standings_agree.Goals as goal
 
 pub returns-then-given-ne408 : goal.returns-then-given-ne408
-returns-then-given-ne408 c = let a = c.args in standings-long _ _ (length-map a.rec.now slot_in ∙ c.slots.ensures.1) c.if-given-ne408.true
+returns-then-given-ne408 c = let a = c.args in standings-long _ _ (length-map a.rec.now slot_in ∙ search rules) c.if-given-ne408.true
 
 pub loop-i-preserved : goal.loop-i-preserved
 loop-i-preserved c = comparing-next c.loop-i.invariant (omega (arith, c.loop-i-test.true)) c.slot_agrees-one.ensures

@@ -6,6 +6,3 @@ use Rattle.caselist.proofs.lists.standings_agree.Given as goal
 
 abbrev pub invariant-loop-i : goal.invariant-loop-i
 invariant-loop-i l = Comparing (map slot_in l.rec) l.given l.same l.i
-
-abbrev pub decreases-loop-i : goal.decreases-loop-i
-decreases-loop-i l = 8 - l.i

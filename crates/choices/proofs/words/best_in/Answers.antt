@@ -1,11 +1,9 @@
-use mathlib.Core.Path.{ap, sym, ◌∙◌}
-use Rattle.select.specs.Choice.{choose_of}
-use Rattle.rivalrows.specs.Rows.{field_in}
-use Rattle.choices.proofs.AnswerLaws.{best-chosen, nan_is}
+use mathlib.Core.Path.{◌∙◌}
+use Rattle.choices.proofs.AnswerLaws.{best-from}
 use Rattle.choices.proofs.words.best_in.Goals as goal
 
-pub returns-in-Slot : goal.returns-in-Slot
-returns-in-Slot c = c.score_at.ensures ∙ best-chosen c.args.field.now c.places.ensures.1 (sym c.in-Slot.is ∙ c.choose_in.ensures ∙ ap (choose_of (field_in c.args.field.now)) nan_is)
+pub returns-in-Ok : goal.returns-in-Ok
+returns-in-Ok c = c.score_at.ensures ∙ best-from c.args.field.now c.told-field c.choose_in.ensures c.in-Ok.is
 
-pub returns-in-Refused : goal.returns-in-Refused
-returns-in-Refused c = c.best_refused.ensures ∙ best-chosen c.args.field.now c.places.ensures.1 (sym c.in-Refused.is ∙ c.choose_in.ensures ∙ ap (choose_of (field_in c.args.field.now)) nan_is)
+pub returns-in-Err : goal.returns-in-Err
+returns-in-Err c = c.best_refused.ensures ∙ best-from c.args.field.now c.told-field c.choose_in.ensures c.in-Err.is

@@ -5,8 +5,5 @@ use Rattle.rows.specs.View.{slot_in}
 use Rattle.eventrun.proofs.SlotLaws.{numbered, bytes_at}
 use Rattle.eventrun.proofs.slots.slots_size.Given as goal
 
-abbrev pub invariant-loop-i : goal.invariant-loop-i
-invariant-loop-i l = Adding bytes_at 52 (numbered 0 (map slot_in l.rec)) 8 l.n l.i
-
-abbrev pub decreases-loop-i : goal.decreases-loop-i
-decreases-loop-i l = 8 - l.i
+abbrev pub invariant-loop-p : goal.invariant-loop-p
+invariant-loop-p l = Adding bytes_at 52 (numbered 0 (map slot_in l.rec)) 8 l.n l.p-index

@@ -7,6 +7,3 @@ use Rattle.eventrun.proofs.slots.write_slots.Given as goal
 
 abbrev pub invariant-loop-i : goal.invariant-loop-i
 invariant-loop-i l = Laying bytes_at (numbered 0 (map slot_in l.rec)) 8 l.initial.out [] l.out l.at l.i
-
-abbrev pub decreases-loop-i : goal.decreases-loop-i
-decreases-loop-i l = 8 - l.i

@@ -3,5 +3,5 @@ use Rattle.pathwords.proofs.probes.ids_row.Goals as goal
 
 pub returns : goal.returns
 returns c =
-    ids-made _ c.id_word-a.ensures c.id_word-b.ensures
-    c.id_word-c.ensures c.id_word-d.ensures
+    ids-made _ c.id_word.ensures c.id_word-2.ensures
+    c.id_word-3.ensures c.id_word-4.ensures

@@ -2,4 +2,4 @@ use Rattle.cells.proofs.RowLaws.{ladder-made}
 use Rattle.pathwords.proofs.probes.ladder_word.Goals as goal
 
 pub returns : goal.returns
-returns c = ladder-made _ c.len_word-last.ensures c.fall-mark.ensures.0
+returns c = ladder-made _ c.len_word.ensures c.fall.ensures.0

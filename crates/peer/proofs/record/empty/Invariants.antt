@@ -1,4 +1,3 @@
-use Prim.Native.Nat.{◌-◌}
 use mathlib.Core.List.{[]}
 use Rattle.rules.specs.Rules.{empty_slot}
 use Rattle.rows.specs.Encode.{slot_rows}
@@ -7,6 +6,3 @@ use Rattle.peer.proofs.record.empty.Given as goal
 
 abbrev pub invariant-loop-i : goal.invariant-loop-i
 invariant-loop-i l = Clearing (slot_rows empty_slot) [] 8 l.rec l.i
-
-abbrev pub decreases-loop-i : goal.decreases-loop-i
-decreases-loop-i l = 8 - l.i

@@ -3,7 +3,4 @@ use Rattle.session.proofs.HeldLaws.{Moving}
 use Rattle.portions.proofs.held.shift.Given as goal
 
 abbrev pub invariant-loop-j : goal.invariant-loop-j
-invariant-loop-j l = Moving l.initial.buf l.from l.to l.buf l.i l.j
-
-abbrev pub decreases-loop-j : goal.decreases-loop-j
-decreases-loop-j l = l.to - l.j
+invariant-loop-j l = Moving l.initial.buf l.from l.to l.buf (l.j - l.from) l.j

@@ -1,18 +1,19 @@
+use borrow.Author.Rules.{rules}
 use mathlib.Core.Path.{sym, ◌∙◌}
 use Rattle.probe_events.proofs.ScanLaws.{scan-start, scan-none, scan-stop, scan-next, scan-less}
 use Rattle.probe_events.proofs.lapse.scan.Goals as goal
 
-pub loop-heard-init : goal.loop-heard-init
-loop-heard-init c = scan-start c.args.cap c.args.at c.args.overdue c.args.heard _ c.rows.ensures.1
+pub loop-i-init : goal.loop-i-init
+loop-i-init c = scan-start c.args.cap c.args.at c.args.overdue c.args.heard _ (search rules)
 
-pub loop-heard-smaller : goal.loop-heard-smaller
-loop-heard-smaller c = scan-less c.loop-heard.invariant c.first_passed-i.ensures c.if-i-ge-RING.false c.sent-s.ensures _ (sym c.defer-wait.ensures ∙ c.in-Some.is) c.set_sent.ensures
+pub loop-i-smaller : goal.loop-i-smaller
+loop-i-smaller c = scan-less c.loop-i.invariant (sym c.in-Some.is ∙ c.first_passed.ensures) c.sent-s.ensures _ (sym c.defer.ensures ∙ c.in-Some-defer.is) c.set_sent.ensures
 
-pub loop-heard-preserved : goal.loop-heard-preserved
-loop-heard-preserved c = scan-next c.loop-heard.invariant c.first_passed-i.ensures c.if-i-ge-RING.false c.sent-s.ensures _ (sym c.defer-wait.ensures ∙ c.in-Some.is) c.set_sent.ensures
+pub loop-i-preserved : goal.loop-i-preserved
+loop-i-preserved c = scan-next c.loop-i.invariant (sym c.in-Some.is ∙ c.first_passed.ensures) c.sent-s.ensures _ (sym c.defer.ensures ∙ c.in-Some-defer.is) c.set_sent.ensures
 
-pub returns-then-i-ge-RING : goal.returns-then-i-ge-RING
-returns-then-i-ge-RING c = scan-none c.loop-heard.invariant c.first_passed-i.ensures c.if-i-ge-RING.true
+pub returns-in_default : goal.returns-in_default
+returns-in_default c = scan-none c.loop-i.invariant (sym c.in_default.is ∙ c.first_passed.ensures)
 
-pub returns-in-None : goal.returns-in-None
-returns-in-None c = scan-stop c.loop-heard.invariant c.first_passed-i.ensures c.if-i-ge-RING.false c.sent-s.ensures (sym c.defer-wait.ensures ∙ c.in-None.is)
+pub returns-in_default-defer : goal.returns-in_default-defer
+returns-in_default-defer c = scan-stop c.loop-i.invariant (sym c.in-Some.is ∙ c.first_passed.ensures) c.sent-s.ensures (sym c.defer.ensures ∙ c.in_default-defer.is)

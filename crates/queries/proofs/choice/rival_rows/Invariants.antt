@@ -1,4 +1,4 @@
--- `queries::choice::rival_rows` meets its contract: the loop fills each row. The measure is the rows left.
+-- `queries::choice::rival_rows` meets its contract: the loop fills each row.
 use Prim.Native.Nat.{◌-◌}
 use mathlib.Core.List.{map}
 use Rattle.rows.specs.View.{slot_in}
@@ -7,6 +7,3 @@ use Rattle.queries.proofs.choice.rival_rows.Given as goal
 
 abbrev pub invariant-loop-i : goal.invariant-loop-i
 invariant-loop-i l = Rowing (map slot_in l.rec) l.field l.i
-
-abbrev pub decreases-loop-i : goal.decreases-loop-i
-decreases-loop-i l = 8 - l.i

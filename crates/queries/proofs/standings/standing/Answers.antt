@@ -1,3 +1,4 @@
+use Rattle.std.proofs.Common.{rules}
 use mathlib.Core.Path.{sym, ap, ◌∙◌}
 use mathlib.Core.List.{[], map}
 use lib.ListN.{length-map, get_or-map}
@@ -11,7 +12,7 @@ pub returns-then-slot-gt7 : goal.returns-then-slot-gt7
 returns-then-slot-gt7 c = slot-above (map slot_in c.args.rec.now) _ c.args.out.now c.if-slot-gt7.true
 
 pub returns-then-used : goal.returns-then-used
-returns-then-used c = slot-told (map slot_in c.args.rec.now) _ c.args.out.now c.if-slot-gt7.false (length-map c.args.rec.now slot_in ∙ c.slots.ensures.1) (slot_in []) (ap (λ (s : Slot). s.used) (get_or-map slot_in c.args.rec.now _ []) ∙ sym c.used.ensures ∙ c.if-used.true) (c.told.ensures ∙ sym (ap (λ (s : Slot). standing_of s.path) (get_or-map slot_in c.args.rec.now _ []))) c.write.ensures
+returns-then-used c = slot-told (map slot_in c.args.rec.now) _ c.args.out.now c.if-slot-gt7.false (length-map c.args.rec.now slot_in ∙ (search rules)) (slot_in []) (ap (λ (s : Slot). s.used) (get_or-map slot_in c.args.rec.now _ []) ∙ sym c.used.ensures ∙ c.if-used.true) (c.told.ensures ∙ sym (ap (λ (s : Slot). standing_of s.path) (get_or-map slot_in c.args.rec.now _ []))) c.write.ensures
 
 pub returns : goal.returns
-returns c = slot-empty (map slot_in c.args.rec.now) _ c.args.out.now c.if-slot-gt7.false (length-map c.args.rec.now slot_in ∙ c.slots.ensures.1) (slot_in []) (ap (λ (s : Slot). s.used) (get_or-map slot_in c.args.rec.now _ []) ∙ sym c.used.ensures ∙ c.if-used.false)
+returns c = slot-empty (map slot_in c.args.rec.now) _ c.args.out.now c.if-slot-gt7.false (length-map c.args.rec.now slot_in ∙ (search rules)) (slot_in []) (ap (λ (s : Slot). s.used) (get_or-map slot_in c.args.rec.now _ []) ∙ sym c.used.ensures ∙ c.if-used.false)

@@ -2,4 +2,4 @@ use Rattle.rows.proofs.NewLaws.{new-made}
 use Rattle.rows.proofs.whole.set_new.Goals as goal
 
 pub returns : goal.returns
-returns c = new-made _ _ c.wipe.ensures c.etx_word-etx.ensures c.label_word-marks.ensures
+returns c = new-made _ _ c.wipe.ensures c.etx_word.ensures c.label_word.ensures

@@ -1,4 +1,4 @@
-use Prim.Native.Nat.{ℕ, ◌-◌}
+use Prim.Native.Nat.{ℕ}
 use mathlib.Core.List.{List, [], ◌∷◌}
 use Rattle.rows.specs.Places.{row_count}
 use Rattle.rows.proofs.CloseLaws.{Clearing}
@@ -10,6 +10,3 @@ zeros = 0 ∷ 0 ∷ 0 ∷ 0 ∷ []
 
 abbrev pub invariant-loop-i : goal.invariant-loop-i
 invariant-loop-i l = Clearing zeros [] row_count l.p l.i
-
-abbrev pub decreases-loop-i : goal.decreases-loop-i
-decreases-loop-i l = row_count - l.i

@@ -1,4 +1,3 @@
-use Prim.Native.Nat.{◌-◌}
 use Rattle.rows.specs.View.{path_in}
 use Rattle.base.proofs.SeqLaws.{Passed}
 use Rattle.ring.specs.Ring.{fine_of}
@@ -6,6 +5,3 @@ use Rattle.waiting.proofs.search.all_count.Given as goal
 
 abbrev pub invariant-loop-i : goal.invariant-loop-i
 invariant-loop-i l = Passed (fine_of l.since) (path_in l.p).ring 8 l.i
-
-abbrev pub decreases-loop-i : goal.decreases-loop-i
-decreases-loop-i l = 8 - l.i

@@ -1,6 +1,7 @@
-use Rattle.base.proofs.SeqLaws.{searched-start}
+use borrow.Author.Rules.{rules}
 use Rattle.rows.proofs.ViewLaws.{ring-length}
+use Rattle.waiting.proofs.SoughtLaws.{sought-start}
 use Rattle.waiting.proofs.search.find.Goals as goal
 
 pub loop-i-init : goal.loop-i-init
-loop-i-init c = searched-start (ring-length _ c.rows.ensures.1)
+loop-i-init c = sought-start (ring-length _ (search rules))

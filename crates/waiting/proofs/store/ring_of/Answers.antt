@@ -1,3 +1,4 @@
+use borrow.Author.Rules.{rules}
 use mathlib.Core.Path.{◌∙◌}
 use mathlib.Core.List.{[], ◌∷◌}
 use Rattle.ring.specs.Ring.{no_sent}
@@ -6,4 +7,4 @@ use Rattle.rows.proofs.ViewLaws.{ring-length}
 use Rattle.waiting.proofs.store.ring_of.Goals as goal
 
 pub returns : goal.returns
-returns c = (λ k. c.sent-a.ensures k ∷ c.sent-b.ensures k ∷ c.sent-c.ensures k ∷ c.sent-d.ensures k ∷ c.sent-e.ensures k ∷ c.sent-f.ensures k ∷ c.sent-g.ensures k ∷ c.sent-h.ensures k ∷ []) ∙ eight _ no_sent (ring-length _ c.rows.ensures.1)
+returns c = (λ k. c.sent.ensures k ∷ c.sent-2.ensures k ∷ c.sent-3.ensures k ∷ c.sent-4.ensures k ∷ c.sent-5.ensures k ∷ c.sent-6.ensures k ∷ c.sent-7.ensures k ∷ c.sent-8.ensures k ∷ []) ∙ eight _ no_sent (ring-length _ (search rules))

@@ -1,4 +1,0 @@
-use Rattle.c_reply.proofs.maybe.Goals as goal
-
-pub returns-then-held : goal.returns-then-held
-returns-then-held c = rw c.if-held.true

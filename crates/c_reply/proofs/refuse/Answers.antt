@@ -1,4 +1,0 @@
-use Rattle.c_reply.proofs.refuse.Goals as goal
-
-pub returns : goal.returns
-returns c = rw c.number.ensures

@@ -1,3 +1,0 @@
--- Laws that the proofs of the methods cite.
-mod ProbeLaws
-mod TrafficLaws

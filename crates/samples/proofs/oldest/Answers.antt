@@ -1,6 +1,0 @@
-use Rattle.base.proofs.MarkedLaws.{first-end}
-use borrow.Author.Rules.{rules}
-use Rattle.samples.proofs.oldest.Goals as goal
-
-pub returns : goal.returns
-returns c = first-end c.loop-i.invariant (search rules)

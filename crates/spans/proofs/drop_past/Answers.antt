@@ -1,6 +1,0 @@
-use Rattle.base.proofs.ScanLaws.{mapping-next}
-use borrow.Author.Rules.{rules}
-use Rattle.spans.proofs.drop_past.Goals as goal
-
-pub loop-i-preserved : goal.loop-i-preserved
-loop-i-preserved c = mapping-next _ c.loop-i.invariant (search rules) c.kept.ensures

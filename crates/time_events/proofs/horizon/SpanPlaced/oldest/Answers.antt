@@ -1,0 +1,10 @@
+use Rattle.std.proofs.Common.{refl, rules}
+use Rattle.rows.proofs.ViewLaws.{spans-length}
+use Rattle.base.proofs.MarkedLaws.{leading-start, first-end}
+use Rattle.time_events.proofs.horizon.SpanPlaced.oldest.Goals as goal
+
+pub loop-i-init : goal.loop-i-init
+loop-i-init c = rw c.none-best.ensures (leading-start refl (spans-length _ (search rules)))
+
+pub returns : goal.returns
+returns c = first-end c.loop-i.invariant (search rules)

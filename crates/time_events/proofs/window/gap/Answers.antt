@@ -1,6 +1,0 @@
-use Rattle.rows.proofs.ViewLaws.{samples-length}
-use Rattle.base.proofs.SeqLaws.{searched-start}
-use Rattle.time_events.proofs.window.gap.Goals as goal
-
-pub loop-i-init : goal.loop-i-init
-loop-i-init c = searched-start (samples-length _ c.rows.ensures.1)
