@@ -46,9 +46,9 @@ struct hess_float_reply {
  * No function keeps anything between calls, and none writes any memory but what is lent: two records may be used
  * from two threads at once; one record is used from one thread at a time.
  *
- * One call takes at most 2,528 bytes of stack, its return address among them, measured on x86-64 on full records over
- * all events (host/stack): hess_record_size 8, hess_record_new 40, hess_record_event 2,448 and 32 of arguments above
- * them, hess_record_words 2,400 (1,912 with any event but a choose), hess_record_bytes 2,528, hess_record_standing 250.
+ * One call takes at most 2,352 bytes of stack, its return address among them, measured on x86-64 on full records over
+ * all events (host/stack): hess_record_size 8, hess_record_new 40, hess_record_event 2,272 and 32 of arguments above
+ * them, hess_record_words 2,224 (1,736 with any event but a choose), hess_record_bytes 2,352, hess_record_standing 256.
  */
 struct hess_record {
     uint64_t settings[4];

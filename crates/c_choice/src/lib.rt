@@ -78,8 +78,9 @@ fn of_held(answer: Result<bool, Refusal>) -> Reply
     Reply::from(answer.map(u64::from))
 }
 
-// The rivals of a pair; 13 for bytes that are not one.
+// The rivals of a pair; 13 for bytes that are not one. Always inlined, so that no rival need be stored.
 #[tactic(auto, unfolding(crate::specs::Choice::pair_from))]
+#[inline(always)]
 fn pair_from(pair: &[u8]) -> Result<(Rival, Rival), Refusal>
     ensures { result ≡ pair_from pair.now }
 {

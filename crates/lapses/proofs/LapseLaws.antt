@@ -90,3 +90,23 @@ module _ {p : Sent → Bool} {f : Sent → Option ℕ} {l₀ l : List Sent} {n :
 
   pub scanning-none : None ≡ position_from p 0 l → record { ring = l; slot = n } ≡ scan_of p f l₀
   scanning-none e = sym (s.same ∙ none-lapses p f l n (place_none p l s.long e) (omega arith))
+
+-- the same by the place as a number, the length where none has passed
+module _ {p : Sent → Bool} {f : Sent → Option ℕ} {l₀ l : List Sent} {n i : ℕ} (d : Sent) where
+  module _ (s : Scanning p f l₀ n l) (e : i ≡ position p l) (h : i < n) where
+    pub scanning-defers-at : (u : ℕ) → f (get_or l i d) ≡ Some u → Scanning p f l₀ n (set l i (with_due (get_or l i d) u))
+    scanning-defers-at u a =
+        record {
+          sound = s.sound;
+          long = rw length-set s.long;
+          same = s.same ∙ sym (defers p f l i d u e (omega arith) a (s.sound (get_or l i d) u a));
+        }
+
+    pub scanning-less-at : (u : ℕ) → f (get_or l i d) ≡ Some u → length (filter p (set l i (with_due (get_or l i d) u))) < length (filter p l)
+    scanning-less-at u a = keep-less p l i (with_due (get_or l i d) u) e (omega arith) (s.sound (get_or l i d) u a)
+
+    pub scanning-lapses-at : f (get_or l i d) ≡ None → record { ring = l; slot = i } ≡ scan_of p f l₀
+    scanning-lapses-at a = sym (s.same ∙ lapses p f l i d e (omega arith) a)
+
+pub scanning-none-at : {p : Sent → Bool} {f : Sent → Option ℕ} {l₀ l : List Sent} {n i : ℕ} → Scanning p f l₀ n l → i ≡ position p l → n ≤ i → record { ring = l; slot = i } ≡ scan_of p f l₀
+scanning-none-at {p} {f} {l₀} {l} {n} {i} s e h = sym (s.same ∙ none-lapses p f l i e (omega arith))

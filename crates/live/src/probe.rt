@@ -121,33 +121,27 @@ impl Liveness {
     }
 
     // Keeps a probe that was held outside the ring in the late list.
-    pub fn lapse(self, sent: Sent) -> Self
+    pub fn lapse(mut self, sent: Sent) -> Self
         ensures { result ≡ lapse_of self sent }
     {
-        Liveness {
-            late: remember(self.late, sent),
-            ..self
-        }
+        self.late = remember(self.late, sent);
+        self
     }
 
     // Gives up every waiting probe; the late list keeps them.
-    pub fn clear(self) -> Self
+    pub fn clear(mut self) -> Self
         ensures { result ≡ clear_of self }
     {
-        Liveness {
-            ring: [none(); RING],
-            late: sweep(self.late, self.ring),
-            ..self
-        }
+        self.late = sweep(self.late, self.ring);
+        self.ring = [none(); RING];
+        self
     }
 
     // A probe that waits now does not count when it lapses.
-    pub fn thaw(self) -> Self
+    pub fn thaw(mut self) -> Self
         ensures { result ≡ thaw_of self }
     {
-        Liveness {
-            ids: ids::thawed_ids(self.ids),
-            ..self
-        }
+        self.ids = ids::thawed_ids(self.ids);
+        self
     }
 }

@@ -30,19 +30,17 @@ fn ring_search(s: Outcome, at: u64, gap: u64) -> Outcome
 
 impl Liveness {
     // Starts misses, epoch, search and ladder again, as every change of state does; the proven size stays.
-    pub fn fresh(self) -> Self
+    pub fn fresh(mut self) -> Self
         ensures { result ≡ fresh_of self }
     {
-        Liveness {
-            ids: ids::fresh_ids(self.ids),
-            sizes: seeking::fresh_sizes(self.sizes),
-            ladder: Ladder {
-                last: None,
-                fallen: false,
-            },
-            misses: 0,
-            ..self
-        }
+        self.ids = ids::fresh_ids(self.ids);
+        self.sizes = seeking::fresh_sizes(self.sizes);
+        self.ladder = Ladder {
+            last: None,
+            fallen: false,
+        };
+        self.misses = 0;
+        self
     }
 
     // The length of the next probe of a path whose padded size is full.
@@ -58,18 +56,16 @@ impl Liveness {
 
     // Takes len bytes as proven, and says whether that is another size than before.
     #[tactic(auto, unfolding(crate::specs::Search::prove_of))]
-    pub fn prove(self, len: u32) -> Outcome
+    pub fn prove(mut self, len: u32) -> Outcome
         ensures { result ≡ prove_of self len }
     {
         if MAX_LEN < len || len < MIN_LEN {
             return refused(self, Refusal::Length);
         }
         let done = seeking::prove(self.sizes, len as u16);
+        self.sizes = done.sizes;
         Outcome {
-            path: Liveness {
-                sizes: done.sizes,
-                ..self
-            },
+            path: self,
             answer: Ok(Answer::Flag(done.changed)),
         }
     }

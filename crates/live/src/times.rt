@@ -12,29 +12,25 @@ use base::types::Refusal;
 impl Liveness {
     // Records a round trip measured at `now`.
     #[tactic(auto, unfolding(crate::specs::Times::sample_of))]
-    pub fn sample(self, now: u64, rtt: u64, window: u64, horizon: u64) -> Outcome
+    pub fn sample(mut self, now: u64, rtt: u64, window: u64, horizon: u64) -> Outcome
         ensures { result ≡ sample_of self now rtt window horizon }
     {
         if DURATION_END <= rtt || DURATION_END <= window || DURATION_END <= horizon {
             return refused(self, Refusal::Duration);
         }
+        self.rtts = spans::rtts::sample(self.rtts, now, rtt, window, horizon);
         Outcome {
-            path: Liveness {
-                rtts: spans::rtts::sample(self.rtts, now, rtt, window, horizon),
-                ..self
-            },
+            path: self,
             answer: Ok(Answer::Done),
         }
     }
 
     // Folds one probe's outcome into the ETX.
-    pub fn fold(self, delivered: bool) -> Self
+    pub fn fold(mut self, delivered: bool) -> Self
         ensures { result ≡ folded_of self delivered }
     {
-        Liveness {
-            etx: etx::fold(self.etx, delivered),
-            ..self
-        }
+        self.etx = etx::fold(self.etx, delivered);
+        self
     }
 
     // How long a probe waits for its answer.

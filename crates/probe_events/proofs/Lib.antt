@@ -2,3 +2,4 @@
 pub mod PollLaws
 pub mod EventLaws
 pub mod ScanLaws
+pub mod SweepLaws

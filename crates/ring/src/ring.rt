@@ -98,10 +98,10 @@ pub fn remember(late: [Sent; LATE], s: Sent) -> [Sent; LATE]
 pub fn sweep(mut late: [Sent; LATE], ring: [Sent; RING]) -> [Sent; LATE]
     ensures { result ≡ swept late ring }
 {
-    for s in ring {
+    for s in &ring {
         if s.used {
             // A variable of its own: the check covers no result laid straight in an array.
-            let next = remember(late, s);
+            let next = remember(late, *s);
             late = next;
         }
     }

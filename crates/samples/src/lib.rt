@@ -29,7 +29,11 @@ fn kept(s: Sample, now: u64, window: u64) -> Sample
 fn dropped(rtts: [Sample; SAMPLES], now: u64, window: u64) -> [Sample; SAMPLES]
     ensures { result ≡ kept_samples now window rtts }
 {
-    rtts.map(|s| kept(s, now, window))
+    let mut out = rtts;
+    for (i, s) in rtts.iter().enumerate() {
+        out[i] = kept(*s, now, window);
+    }
+    out
 }
 
 // Whether a sample takes the place of the oldest found so far: of equals the first stays.

@@ -27,11 +27,13 @@ fn kept(s: Span, now: u64, horizon: u64) -> Span
     }
 }
 
-// The spans without those past the horizon.
-fn dropped(spans: [Span; SPANS], now: u64, horizon: u64) -> [Span; SPANS]
-    ensures { result ≡ kept_spans now horizon spans }
+// Drops the spans past the horizon.
+fn drop_past(spans: &mut [Span; SPANS], now: u64, horizon: u64)
+    ensures { spans.new ≡ kept_spans now horizon spans.old }
 {
-    spans.map(|s| kept(s, now, horizon))
+    for i in 0..SPANS {
+        spans[i] = kept(spans[i], now, horizon);
+    }
 }
 
 // Whether a span takes the place of the oldest found so far: of equals the first stays.
@@ -85,7 +87,8 @@ fn opened(spans: [Span; SPANS], now: u64, rtt: u64) -> [Span; SPANS]
 pub fn span(spans: [Span; SPANS], now: u64, rtt: u64, horizon: u64) -> [Span; SPANS]
     ensures { result ≡ span_of now rtt horizon spans }
 {
-    let mut out = dropped(spans, now, horizon);
+    let mut out = spans;
+    drop_past(&mut out, now, horizon);
     let slot = rtt::marked::newest(&out);
     if slot < SPANS && joins(out[slot], now, horizon) {
         out[slot] = joined(out[slot], now, rtt);
